@@ -1,5 +1,5 @@
 -- From what a session's call answers to what the call of a page does.
-use Rattle.rdfax_c.proofs.Common.{◌≡◌, ℕ, true, List, subst, inl, inr, Option, Some, Result, Err, Opens, State, KeepsPage, OpensPage, LendsQuad}
+use Rattle.rdfax_c.proofs.Common.{◌≡◌, ℕ, true, List, subst, inl, inr, Option, Some, Result, Err, SessionOpenGives, State, KeepsOpened, OpensPage, LendsQuad}
 use Rattle.rx_quads.specs.Listed.{ShowsOne, quads_of}
 use Rattle.rx_quads.specs.declared.terms.ShownQuad.{ShownQuad}
 use Rattle.rx_session.specs.Sessions.{ShowsQuad, quads_in, shown_in}
@@ -11,7 +11,7 @@ use Rattle.rx_session.specs.declared.sessions.State.TheVariants as state
 use Rattle.rdfax_c.specs.Lent.{quad_lent}
 use Rattle.rdfax_c.specs.declared.terms.Terms.{Terms}
 
-pub opens_page : (asked : Option Want) (file : Option (List ℕ)) (answer : Result State OpenError) (result : ℕ) (new : Option State) → Opens asked file answer → KeepsPage answer result new → OpensPage asked file result new
+pub opens_page : (asked : Option Want) (file : Option (List ℕ)) (answer : Result State OpenError) (result : ℕ) (new : Option State) → SessionOpenGives asked file answer → KeepsOpened answer result new → OpensPage asked file result new
 opens_page asked file answer result new opens (inl k) = record { answer = answer; opens = opens; code = k.0; kept = k.1 }
 opens_page asked file answer result new opens (inr k) = record { answer = Err open_error.NoMemory; opens = tt; code = k.0; kept = k.1 }
 

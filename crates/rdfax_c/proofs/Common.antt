@@ -1,10 +1,10 @@
 -- What the proofs of this crate cite of the crates below, and of its own definitions.
-pub use Rattle.rdfax_c.specs.Calls.{KeepsPage, LendsQuad, OpensPage, extraction_by, given}
+pub use Rattle.rdfax_c.specs.Calls.{KeepsOpened, LendsQuad, OpensPage, bytes_given, extraction_by}
 pub use Rattle.rdfax_c.specs.Held.{boxed, held}
 pub use Rattle.rdfax_c.specs.contracts.loose.Loose.into_box.{clauses, ended}
 pub use Rattle.rx_items.proofs.Common.{Err, List, None, Option, Result, Some, [], ap, false, inl, inr, is_some, refl, rules, subst, sym, true, ℕ, ◌++◌, ◌∙◌, ◌∷◌, ◌≡◌}
 pub use Rattle.rx_nest.proofs.Common.{lit<}
-pub use Rattle.rx_session.specs.Requests.{Opens, bytes_in, check_in, items_in}
+pub use Rattle.rx_session.specs.Requests.{SessionOpenGives, bytes_in, check_in, items_wanted}
 pub use Rattle.rx_session.specs.declared.sessions.State.{State}
 pub use Rattle.std.proofs.BoxSteps.Steps.{box_in, box_out}
 pub use Rattle.std.proofs.alloc.Calls.{Al, Goes-blank, handle_tells}

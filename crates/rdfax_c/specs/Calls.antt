@@ -5,8 +5,8 @@ use Rattle.rx_nquads.specs.Quads.{Quad}
 use Rattle.rx_quads.specs.Listed.{ShowsOne}
 use Rattle.rx_quads.specs.declared.terms.ShownQuad.{ShownQuad}
 use Rattle.rx_session.specs.Kinds.{kind_number}
-use Rattle.rx_session.specs.Requests.{Opens, extraction_in}
-use Rattle.rx_session.specs.Sessions.{IsFed, FeedGives, FinishGives, FeedAgain, FinishAgain, KeepsQuads, text_in, nodes_in, quads_in, shown_in, fault_in}
+use Rattle.rx_session.specs.Requests.{SessionOpenGives, extraction_in}
+use Rattle.rx_session.specs.Sessions.{IsFed, SessionFeedGives, SessionFinishGives, FeedAgain, FinishAgain, KeepsQuads, finished_text, nodes_in, quads_in, shown_in, refused_fault}
 use Rattle.rx_session.specs.Wants.{Want}
 use Rattle.rx_session.specs.declared.errors.OpenError.{OpenError}
 use Rattle.rx_session.specs.declared.errors.SessionError.{SessionError}
@@ -18,9 +18,9 @@ use Rattle.rdfax_c.specs.declared.options.PageFault.{PageFault}
 use Rattle.rdfax_c.specs.declared.terms.Terms.{Terms}
 
 -- bytes, where they are given
-abbrev pub given : Bool → List ℕ → Option (List ℕ)
-given true bytes = Some bytes
-given false bytes = None
+abbrev pub bytes_given : Bool → List ℕ → Option (List ℕ)
+bytes_given true bytes = Some bytes
+bytes_given false bytes = None
 
 -- what the options ask for of a page of this address, in the graph of this name
 abbrev pub extraction_by : Options → List ℕ → Option (List ℕ) → Option Want
@@ -41,13 +41,13 @@ opened_code (Err why) = open_code why
 -- A session was opened for what is asked for, and the page keeps it; or the page keeps none, and the number says why.
 pub record OpensPage (asked : Option Want) (file : Option (List ℕ)) (result : ℕ) (new : Option State) : Type 0 where
   pub answer : Result State OpenError
-  pub opens : Opens asked file answer
+  pub opens : SessionOpenGives asked file answer
   pub code : result ≡ opened_code answer
   pub kept : new ≡ opened answer
 
 -- what was opened is kept, or there was no memory for it
-abbrev pub KeepsPage : Result State OpenError → ℕ → Option State → Type 0
-KeepsPage answer result new = ((result ≡ opened_code answer) × (new ≡ opened answer)) ⊎ ((result ≡ 5) × (new ≡ None))
+abbrev pub KeepsOpened : Result State OpenError → ℕ → Option State → Type 0
+KeepsOpened answer result new = ((result ≡ opened_code answer) × (new ≡ opened answer)) ⊎ ((result ≡ 5) × (new ≡ None))
 
 -- the session answered a piece, or its end, and the page keeps it
 pub record FeedsSession (piece : List ℕ) (old : State) (result : ℕ) (new : Option State) : Type 0 where
@@ -55,7 +55,7 @@ pub record FeedsSession (piece : List ℕ) (old : State) (result : ℕ) (new : O
   pub now : State
   pub kept : new ≡ Some now
   pub code : result ≡ answer_code answer
-  pub gives : (want : Want) (context : Context) (bytes : List ℕ) → IsFed want context bytes old → FeedGives want context bytes piece answer now
+  pub gives : (want : Want) (context : Context) (bytes : List ℕ) → IsFed want context bytes old → SessionFeedGives want context bytes piece answer now
   pub again : FeedAgain old answer now
 
 pub record FinishesSession (old : State) (result : ℕ) (new : Option State) : Type 0 where
@@ -63,7 +63,7 @@ pub record FinishesSession (old : State) (result : ℕ) (new : Option State) : T
   pub now : State
   pub kept : new ≡ Some now
   pub code : result ≡ answer_code answer
-  pub gives : (want : Want) (context : Context) (bytes : List ℕ) → IsFed want context bytes old → FinishGives want context bytes answer now
+  pub gives : (want : Want) (context : Context) (bytes : List ℕ) → IsFed want context bytes old → SessionFinishGives want context bytes answer now
   pub again : FinishAgain old answer now
 
 -- a page of which no session is open is left so
@@ -81,7 +81,7 @@ page_code (Some session) = state_code session
 
 abbrev pub page_text : Option State → List ℕ
 page_text None = []
-page_text (Some session) = text_in session
+page_text (Some session) = finished_text session
 
 abbrev pub page_nodes : Option State → ℕ
 page_nodes None = 0
@@ -92,7 +92,7 @@ page_quads None = []
 page_quads (Some session) = quads_in session
 
 abbrev pub page_fault : Option State → Option Fault
-page_fault page = option_and_then fault_in page
+page_fault page = option_and_then refused_fault page
 
 -- the name of the kind of a fault
 abbrev pub fault_name : Option Fault → List ℕ

@@ -1,9 +1,9 @@
 //! The calls. Those whose names end with `_given` take no null pointer, and are told whether a name or a file is given: the
 //! calls of the header stand above them.
 ghost use Rattle.std.specs.Prelude.{◌≡◌, ◌↔◌, ◌≤◌, ◌++◌, None, length, min, take, drop};
-ghost use Rattle.rx_session.specs.Requests.{items_in, check_in};
+ghost use Rattle.rx_session.specs.Requests.{items_wanted, check_in};
 ghost use Rattle.rx_session.specs.Sessions.{KeepsQuads, quads_in};
-ghost use Rattle.rdfax_c.specs.Calls.{given, extraction_by, KeepsPage, OpensPage, FeedsPage, FinishesPage, page_code, page_text, page_nodes, page_quads, page_fault, fault_name, filled, TellsFault, TellsQuad, LendsWhere};
+ghost use Rattle.rdfax_c.specs.Calls.{bytes_given, extraction_by, KeepsOpened, OpensPage, FeedsPage, FinishesPage, page_code, page_text, page_nodes, page_quads, page_fault, fault_name, filled, TellsFault, TellsQuad, LendsWhere};
 
 use crate::options::{Options, PageFault, fault_seen, given};
 use crate::pages::Page;
@@ -26,7 +26,7 @@ pub extern "C" fn rdfax_extract_given(
     has_context: bool,
     page: &mut Page,
 ) -> u32
-    ensures { OpensPage (extraction_by options.now address.now (given has_graph graph.now)) (given has_context context.now) result page.new.handle.session }
+    ensures { OpensPage (extraction_by options.now address.now (bytes_given has_graph graph.now)) (bytes_given has_context context.now) result page.new.handle.session }
 {
     let opened = open_extraction(
         alloc,
@@ -48,7 +48,7 @@ pub extern "C" fn rdfax_items_given(
     address: &[u8],
     page: &mut Page,
 ) -> u32
-    ensures { OpensPage (items_in syntax address.now) None result page.new.handle.session }
+    ensures { OpensPage (items_wanted syntax address.now) None result page.new.handle.session }
 {
     let opened = open_items(alloc, syntax, address);
     keep(alloc, page, opened)
@@ -63,7 +63,7 @@ pub extern "C" fn rdfax_check_given(
     has_context: bool,
     page: &mut Page,
 ) -> u32
-    ensures { OpensPage (check_in syntax) (given has_context context.now) result page.new.handle.session }
+    ensures { OpensPage (check_in syntax) (bytes_given has_context context.now) result page.new.handle.session }
 {
     let opened = open_check(alloc, syntax, given(has_context, context));
     keep(alloc, page, opened)
@@ -71,7 +71,7 @@ pub extern "C" fn rdfax_check_given(
 
 /// Keeps what was opened, if anything was, in place of what the page had.
 fn keep(alloc: Global, page: &mut Page, opened: Result<Session, OpenError>) -> u32
-    ensures { KeepsPage opened result page.new.handle.session }
+    ensures { KeepsOpened opened result page.new.handle.session }
 {
     let before = page.take(alloc);
     drop(before);

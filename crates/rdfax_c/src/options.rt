@@ -1,7 +1,7 @@
 //! What C says of a page, and what it is told of a fault.
 ghost use Rattle.std.specs.Prelude.{◌≡◌};
 ghost use Rattle.rx_session.specs.Requests.{bytes_in};
-ghost use Rattle.rdfax_c.specs.Calls.{given, fault_seen};
+ghost use Rattle.rdfax_c.specs.Calls.{bytes_given, fault_seen};
 
 use rx_session::{Fault, kind_number};
 
@@ -31,7 +31,7 @@ pub struct PageFault {
 
 /// The bytes, where they are given.
 pub(crate) fn given(has: bool, bytes: &[u8]) -> Option<&[u8]>
-    ensures { bytes_in result ≡ given has bytes.now }
+    ensures { bytes_in result ≡ bytes_given has bytes.now }
 {
     if has { Some(bytes) } else { None }
 }

@@ -1,5 +1,5 @@
 -- What is sought where the signs of a page's tree are cut.
-use Rattle.rx_rdfa.proofs.Common.{◌≡◌, ◌∙◌, ℕ, suc, ◌≤◌, ◌<◌, Bool, true, false, List, [], ◌∷◌, ◌++◌, map, length, refl, sym, ap, subst, append-nil, inl, inr, ◌⊎◌, ⊎_elim, Option, Some, None, arith, nat_lt, nat_le, nat_tests, not, ◌&&◌, ◌||◌, is_some, if◌then◌else◌, option_or, Chars, or_right, StartTag, Tree, end, element, text, first_href, head_href, root_href, Tag, read_tag, tags_of}
+use Rattle.rx_rdfa.proofs.Common.{◌≡◌, ◌∙◌, ℕ, suc, ◌≤◌, ◌<◌, Bool, true, false, List, [], ◌∷◌, ◌++◌, map, length, refl, sym, ap, subst, append-nil, inl, inr, ◌⊎◌, ⊎_elim, Option, Some, None, arith, nat_lt, nat_le, nat_tests, not, ◌&&◌, ◌||◌, is_some, if◌then◌else◌, option_or, Chars, or_right, StartTag, Tree, end, element, text, first_href, head_href, root_href, ElementTag, read_tag, tags_of}
 use Rattle.std.proofs.Math.Bool.{or-false}
 use Rattle.rx_nest.specs.Signs.{Sign, begun, said, finished, signs_of}
 use Rattle.rx_nest.specs.Fronts.{Lie}
@@ -100,23 +100,23 @@ prefix size to (element t inside rest) (z ∷ zs) us e l m =
         subst (λ x. Pre size (element t inside rest) (begun t ∷ x)) (sym is) (past_element t inside rest ws w.1 (outer ws us (sym r) lies m))
 
 -- text and what follows it
-said_on : (line : List Tag) (s : Seeking) (chars : Chars) (zs : List Sign) → seeks line s (map said chars ++ zs) ≡ seeks line s zs
+said_on : (line : List ElementTag) (s : Seeking) (chars : Chars) (zs : List Sign) → seeks line s (map said chars ++ zs) ≡ seeks line s zs
 said_on line s chars zs =
     seeks_append line s (map said chars) zs ∙ (ap (λ l. seeks l (seeks line s (map said chars)) zs) (said_line line chars) ∙ ap (λ x. seeks line x zs) (said_seeks line s chars))
 
-said_open : (line : List Tag) (chars : Chars) (zs : List Sign) → line_of line (map said chars ++ zs) ≡ line_of line zs
+said_open : (line : List ElementTag) (chars : Chars) (zs : List Sign) → line_of line (map said chars ++ zs) ≡ line_of line zs
 said_open line chars zs = line_append line (map said chars) zs ∙ ap (λ l. line_of l zs) (said_line line chars)
 
 -- a whole element and what follows it
-past_open : (line : List Tag) (t : StartTag) (inside : Tree) (zs : List Sign) → line_of line (begun t ∷ (signs_of inside ++ finished ∷ zs)) ≡ line_of line zs
+past_open : (line : List ElementTag) (t : StartTag) (inside : Tree) (zs : List Sign) → line_of line (begun t ∷ (signs_of inside ++ finished ∷ zs)) ≡ line_of line zs
 past_open line t inside zs = line_append (read_tag t ∷ line) (signs_of inside) (finished ∷ zs) ∙ ap (λ l. line_of l (finished ∷ zs)) (tree_line (read_tag t ∷ line) inside)
 
-past_seeks : (line : List Tag) (s : Seeking) (t : StartTag) (inside : Tree) (zs : List Sign)
+past_seeks : (line : List ElementTag) (s : Seeking) (t : StartTag) (inside : Tree) (zs : List Sign)
     → seeks line s (begun t ∷ (signs_of inside ++ finished ∷ zs)) ≡ seeks line (seek (suc (length line)) (seeks (read_tag t ∷ line) (seek (length line) s (begun t)) (signs_of inside)) finished) zs
 past_seeks line s t inside zs = seeks_nodes (read_tag t ∷ line) (seek (length line) s (begun t)) inside (finished ∷ zs)
 
 -- what was open stays open
-stays_open : {size : ℕ} {nodes : Tree} {zs : List Sign} (line : List Tag) → Pre size nodes zs → length line ≤ length (line_of line zs)
+stays_open : {size : ℕ} {nodes : Tree} {zs : List Sign} (line : List ElementTag) → Pre size nodes zs → length line ≤ length (line_of line zs)
 stays_open line (none nodes u) = omega arith
 stays_open line (in_text chars rest cs u) = let e = ap length (said_line line cs) in omega (arith, e)
 stays_open line (past_text chars rest zs p) = let h = stays_open line p in let e = ap length (said_open line chars zs) in omega (arith, e, h)
@@ -124,7 +124,7 @@ stays_open line (in_element t inside rest zs a u p) = let h = stays_open (read_t
 stays_open line (past_element t inside rest zs a p) = let h = stays_open line p in let e = ap length (past_open line t inside zs) in omega (arith, e, h)
 
 -- either nothing more is open, or one of the nodes has begun
-open_or_begun : {size : ℕ} {nodes : Tree} {zs : List Sign} (line : List Tag) → Pre size nodes zs → (line_of line zs ≡ line) ⊎ (has_begun size nodes ≡ true)
+open_or_begun : {size : ℕ} {nodes : Tree} {zs : List Sign} (line : List ElementTag) → Pre size nodes zs → (line_of line zs ≡ line) ⊎ (has_begun size nodes ≡ true)
 open_or_begun line (none nodes u) = inl refl
 open_or_begun line (in_text chars rest cs u) = inl (said_line line cs)
 open_or_begun line (past_text chars rest zs p) = ⊎_elim (λ e. inl (said_open line chars zs ∙ e)) (λ b. inr b) (open_or_begun line p)
@@ -132,7 +132,7 @@ open_or_begun {size = size} line (in_element t inside rest zs a u p) = inr (ap (
 open_or_begun {size = size} line (past_element t inside rest zs a p) = inr (ap (λ b. b || has_begun size rest) (is_below t.at size a))
 
 -- below the children of a head nothing is looked at
-seeks_deep : {size : ℕ} {nodes : Tree} {zs : List Sign} (a b c : Tag) (line : List Tag) → Pre size nodes zs → seeks (a ∷ b ∷ c ∷ line) base_child zs ≡ base_child
+seeks_deep : {size : ℕ} {nodes : Tree} {zs : List Sign} (a b c : ElementTag) (line : List ElementTag) → Pre size nodes zs → seeks (a ∷ b ∷ c ∷ line) base_child zs ≡ base_child
 seeks_deep a b c line (none nodes u) = refl
 seeks_deep a b c line (in_text chars rest cs u) = said_seeks (a ∷ b ∷ c ∷ line) base_child cs
 seeks_deep a b c line (past_text chars rest zs p) = said_on (a ∷ b ∷ c ∷ line) base_child chars zs ∙ seeks_deep a b c line p
@@ -166,7 +166,7 @@ abbrev in_head_at : ℕ → Tree → Seeking
 in_head_at size nodes = if has_base size nodes then known (first_href (tags_of nodes)) else base_child
 
 -- the children of a head
-seeks_head : {size : ℕ} {nodes : Tree} {zs : List Sign} (a b : Tag) → Pre size nodes zs → seeks (a ∷ b ∷ []) base_child zs ≡ in_head_at size nodes
+seeks_head : {size : ℕ} {nodes : Tree} {zs : List Sign} (a b : ElementTag) → Pre size nodes zs → seeks (a ∷ b ∷ []) base_child zs ≡ in_head_at size nodes
 seeks_head {size = size} a b (none nodes u) = ap (λ (x : Bool). if x then known (first_href (tags_of nodes)) else base_child) (sym (no_base size nodes u))
 seeks_head {size = size} a b (in_text chars rest cs u) = said_seeks (a ∷ b ∷ []) base_child cs ∙ ap (λ (x : Bool). if x then known (first_href (tags_of rest)) else base_child) (sym (no_base size rest u))
 seeks_head a b (past_text chars rest zs p) = said_on (a ∷ b ∷ []) base_child chars zs ∙ seeks_head a b p
@@ -203,20 +203,20 @@ unknown s href true e = e
 unknown s href false e = λ other k. (let w : base_child ≡ known other = sym e ∙ k in cc)
 
 -- the children of the root
-abbrev Decides : ℕ → Tag → Tree → List Sign → Type 0
+abbrev Decides : ℕ → ElementTag → Tree → List Sign → Type 0
 Decides size root nodes zs = Gives (child_decides size (length (line_of (root ∷ []) zs)) nodes) (head_href (tags_of nodes)) (seeks (root ∷ []) first_child zs)
 
 first_unknown : (size n : ℕ) (nodes : Tree) (href : Option Chars) (s : Seeking) → has_begun size nodes ≡ false → s ≡ first_child → Gives (child_decides size n nodes) href s
 first_unknown size n nodes href s u e =
     subst (λ b. Gives b href s) (sym (no_child size n nodes u)) (λ other k. (let w : first_child ≡ known other = sym e ∙ k in cc))
 
-seeks_root : {size : ℕ} {nodes : Tree} {zs : List Sign} (root : Tag) → Pre size nodes zs → Decides size root nodes zs
+seeks_root : {size : ℕ} {nodes : Tree} {zs : List Sign} (root : ElementTag) → Pre size nodes zs → Decides size root nodes zs
 seeks_root {size = size} root (none nodes u) = first_unknown size 1 nodes (head_href (tags_of nodes)) first_child u refl
 seeks_root {size = size} root (in_text chars rest cs u) =
     first_unknown size (length (line_of (root ∷ []) (map said cs))) rest (head_href (tags_of rest)) (seeks (root ∷ []) first_child (map said cs)) u (said_seeks (root ∷ []) first_child cs)
 seeks_root {size = size} root (past_text chars rest zs p) =
     subst (λ s. Gives (child_decides size (length (line_of (root ∷ []) (map said chars ++ zs))) rest) (head_href (tags_of rest)) s) (sym (said_on (root ∷ []) first_child chars zs))
-    (subst (λ (l : List Tag). Gives (child_decides size (length l) rest) (head_href (tags_of rest)) (seeks (root ∷ []) first_child zs)) (sym (said_open (root ∷ []) chars zs)) (seeks_root root p))
+    (subst (λ (l : List ElementTag). Gives (child_decides size (length l) rest) (head_href (tags_of rest)) (seeks (root ∷ []) first_child zs)) (sym (said_open (root ∷ []) chars zs)) (seeks_root root p))
 seeks_root {size = size} root (in_element t inside rest zs k u p) = by (is_head t)
   where
     by : (b : Bool)
@@ -234,11 +234,11 @@ seeks_root {size = size} root (in_element t inside rest zs k u p) = by (is_head 
         (unknown (seeks (read_tag t ∷ root ∷ []) base_child zs) (first_href (tags_of inside)) (has_base size inside) (seeks_head (read_tag t) root p))
 seeks_root {size = size} root (past_element t inside rest zs k p) =
     subst (λ s. Gives (child_decides size (length (line_of (root ∷ []) (begun t ∷ (signs_of inside ++ finished ∷ zs)))) (element t inside rest)) (head_href (tags_of (element t inside rest))) s) (sym (past_seeks (root ∷ []) first_child t inside zs))
-    (subst (λ (l : List Tag). Gives (child_decides size (length l) (element t inside rest)) (head_href (tags_of (element t inside rest))) (seeks (root ∷ []) (seek 2 (seeks (read_tag t ∷ root ∷ []) (seek 1 first_child (begun t)) (signs_of inside)) finished) zs))
+    (subst (λ (l : List ElementTag). Gives (child_decides size (length l) (element t inside rest)) (head_href (tags_of (element t inside rest))) (seeks (root ∷ []) (seek 2 (seeks (read_tag t ∷ root ∷ []) (seek 1 first_child (begun t)) (signs_of inside)) finished) zs))
     (sym (past_open (root ∷ []) t inside zs)) (by (is_head t)))
   where
     over : (nat_le (length (line_of (root ∷ []) zs)) 1 || has_begun size rest) ≡ true
-    over = ⊎_elim (λ e. ap (λ (l : List Tag). nat_le (length l) 1 || has_begun size rest) e) (λ e. or_right (nat_le (length (line_of (root ∷ []) zs)) 1) (has_begun size rest) e) (open_or_begun (root ∷ []) p)
+    over = ⊎_elim (λ e. ap (λ (l : List ElementTag). nat_le (length l) 1 || has_begun size rest) e) (λ e. or_right (nat_le (length (line_of (root ∷ []) zs)) 1) (has_begun size rest) e) (open_or_begun (root ∷ []) p)
 
     by : (b : Bool)
         → Gives (nat_lt t.at size && (not b || (has_base size inside || (nat_le (length (line_of (root ∷ []) zs)) 1 || has_begun size rest)))) (if b then first_href (tags_of inside) else None)

@@ -1,5 +1,5 @@
 -- The seeking knows the base exactly over the bytes of which a front decides it.
-use Rattle.rx_pages.proofs.Common.{⊎_elim, ◌≡◌, ◌∙◌, ℕ, ◌+◌, ◌≤◌, Bool, true, false, List, [], ◌∷◌, ◌++◌, map, length, refl, sym, ap, subst, append_assoc, append-nil, Option, None, Result, Ok, Err, arith, if◌then◌else◌, length-map, Chars, Syntax, start_of, Tree, end, element, Page, Line, Phase, Fault, Limits, closing, closed, IsWide, Event, says, spot_of, Progress, page_byte_on, page_on, page_read, nothing_read, fault_stays, page_append, nothing_unfinished}
+use Rattle.rx_pages.proofs.Common.{⊎_elim, ◌≡◌, ◌∙◌, ℕ, ◌+◌, ◌≤◌, Bool, true, false, List, [], ◌∷◌, ◌++◌, map, length, refl, sym, ap, subst, append_assoc, append-nil, Option, None, Result, Ok, Err, arith, if◌then◌else◌, length-map, Chars, Syntax, start_tag_of, Tree, end, element, Page, Line, Phase, Fault, Limits, closing, closed, IsWide, Event, says, spot_of, Progress, page_byte_on, page_on, page_read, no_progress, fault_stays, page_append, nothing_unfinished}
 use Rattle.rx_rdfa.proofs.Common.{root_href, read_tag, tags_of}
 use Rattle.std.specs.Str.{encode_utf8_all}
 use Rattle.rx_pages.proofs.Closings.{fronts_close}
@@ -67,11 +67,11 @@ module _ (syntax : Syntax) (limits : Limits) where
         let p = page_shows syntax wide (closed front line phase) tree the_page in
         let here : page_read syntax wide front ≡ Ok now = read_wide syntax limits wide refl (omega arith) (omega arith) front now read in
         let more = shows_more syntax wide front (encode_utf8_all (closing line phase)) now p.final here p.read in
-        let some = shows_more syntax limits [] front nothing_read now refl read in
-        let whole : shown now ++ more.signs ≡ signs_of (element (start_of d.root d.t) d.inside end) = sym more.are ∙ (p.signs_are ∙ ap signs_of d.tree_is) in
+        let some = shows_more syntax limits [] front no_progress now refl read in
+        let whole : shown now ++ more.signs ≡ signs_of (element (start_tag_of d.root d.t) d.inside end) = sym more.are ∙ (p.signs_are ∙ ap signs_of d.tree_is) in
         let lies : Lie 0 (length front) (shown now) = subst (λ x. Lie 0 (length front) x) (sym some.are) some.lie in
-        let pre = prefix (length front) (length (closed front line phase)) (element (start_of d.root d.t) d.inside end) (shown now) more.signs whole lies more.lie in
-        let gives = sought_cut (length front) (start_of d.root d.t) d.inside (shown now) pre in
+        let pre = prefix (length front) (length (closed front line phase)) (element (start_tag_of d.root d.t) d.inside end) (shown now) more.signs whole lies more.lie in
+        let gives = sought_cut (length front) (start_tag_of d.root d.t) d.inside (shown now) pre in
         subst (λ n. Gives (is_decided (length front) n tree) (root_href (tags_of tree)) (sought (shown now))) open_length
         (subst (λ t. Gives (is_decided (length front) (length (line_of [] (shown now))) t) (root_href (tags_of t)) (sought (shown now))) (sym d.tree_is) gives)
 
@@ -95,7 +95,7 @@ module _ (syntax : Syntax) (limits : Limits) where
   find (byte ∷ rest) init p q href r none e k = by (λ x a b c. find rest (init ++ byte ∷ []) x q href a b c k) (page_byte_on syntax limits (Ok p) byte) refl e
     where
       first_read : (x : Progress) → page_byte_on syntax limits (Ok p) byte ≡ Ok x → page_read syntax limits (init ++ byte ∷ []) ≡ Ok x
-      first_read x a = page_append syntax limits (spot_of syntax p.now.nest) (Ok nothing_read) init (byte ∷ []) ∙ (ap (λ z. page_on syntax limits z (byte ∷ [])) r ∙ a)
+      first_read x a = page_append syntax limits (spot_of syntax p.now.nest) (Ok no_progress) init (byte ∷ []) ∙ (ap (λ z. page_on syntax limits z (byte ∷ [])) r ∙ a)
 
       all : (init ++ byte ∷ []) ++ rest ≡ init ++ byte ∷ rest
       all = append_assoc init (byte ∷ []) rest
@@ -105,7 +105,7 @@ module _ (syntax : Syntax) (limits : Limits) where
           absurd (none other (sym (ap (λ es. sought (sees nothing_seen es).signs) told ∙ (ap (λ (y : Sight). sought y.signs) (sees_append nothing_seen p.told events) ∙ says_sought events (sees nothing_seen p.told) alone)) ∙ s))
       here x other a w s (settled run held) =
           let read = first_read x a in
-          let later : page_read syntax limits ((init ++ byte ∷ []) ++ rest) ≡ Ok q = page_append syntax limits (spot_of syntax p.now.nest) (Ok nothing_read) (init ++ byte ∷ []) rest ∙ (ap (λ z. page_on syntax limits z rest) read ∙ w) in
+          let later : page_read syntax limits ((init ++ byte ∷ []) ++ rest) ≡ Ok q = page_append syntax limits (spot_of syntax p.now.nest) (Ok no_progress) (init ++ byte ∷ []) rest ∙ (ap (λ z. page_on syntax limits z rest) read ∙ w) in
           let more = shows_more syntax limits (init ++ byte ∷ []) rest x q read later in
           let same : known other ≡ known href = sym (ap sought more.are ∙ known_more (shown x) more.signs other s) ∙ k in
           let href_is : other ≡ href = cc in
@@ -140,7 +140,7 @@ module _ (syntax : Syntax) (limits : Limits) where
 
   pub known_over : (bytes : List ℕ) (href : Option Chars) (q : Progress) → page_read syntax limits bytes ≡ Ok q → sought (shown q) ≡ known href → IsKnownOver syntax limits bytes href
   known_over bytes href q r k =
-      let f = find bytes [] nothing_read q href refl (λ h m. cc) r k in
+      let f = find bytes [] no_progress q href refl (λ h m. cc) r k in
       let n = f.now.now.nest in
       let begun = (nothing_unfinished syntax limits f.front n.line n.phase).1 (record { now = f.now; read = f.read; is_at = record { line_is = refl; phase_is = refl }; run_is = f.run; part_is = f.held }) in
       let c = fronts_close syntax limits f.front None n.line n.phase (has_level bytes href q r k) begun in

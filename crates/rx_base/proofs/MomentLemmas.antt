@@ -1,5 +1,5 @@
 -- The seeking knows the base from the first of the moments on.
-use Rattle.rx_rdfa.proofs.Common.{◌≡◌, ◌∙◌, ℕ, suc, ◌≤◌, Bool, true, false, List, [], ◌∷◌, ◌++◌, length, refl, sym, ap, subst, append_assoc, append-nil, Option, Some, None, codes, bytes_eq, arith, ◌==◌, if◌then◌else◌, Chars, StartTag, Tag, read_tag}
+use Rattle.rx_rdfa.proofs.Common.{◌≡◌, ◌∙◌, ℕ, suc, ◌≤◌, Bool, true, false, List, [], ◌∷◌, ◌++◌, length, refl, sym, ap, subst, append_assoc, append-nil, Option, Some, None, codes, bytes_eq, arith, ◌==◌, if◌then◌else◌, Chars, StartTag, ElementTag, read_tag}
 use Rattle.std.proofs.lemmas.List.{length-append}
 use Rattle.rx_nest.specs.Signs.{Sign, begun, said, finished}
 use Rattle.rx_base.specs.Lines.{line_on, line_of}
@@ -8,47 +8,47 @@ use Rattle.rx_base.specs.Moments.{children_on, children_of, Moment, base_begins,
 use Rattle.rx_base.proofs.Lines.{line_append}
 use Rattle.rx_base.proofs.Found.{known_stays, not_two}
 
-children_append : (line children : List Tag) (xs ys : List Sign) → children_of line children (xs ++ ys) ≡ children_of (line_of line xs) (children_of line children xs) ys
+children_append : (line children : List ElementTag) (xs ys : List Sign) → children_of line children (xs ++ ys) ≡ children_of (line_of line xs) (children_of line children xs) ys
 children_append line children [] ys = refl
 children_append line children (x ∷ xs) ys = children_append (line_on line x) (children_on line children x) xs ys
 
 -- what is open, the root's children, and what is sought
-data Seeks (line : List Tag) : List Tag → Seeking → Type 0 where
+data Seeks (line : List ElementTag) : List ElementTag → Seeking → Type 0 where
   unbegun : line ≡ [] → Seeks line [] first_child
-  in_root : (root : Tag) → line ≡ root ∷ [] → Seeks line [] first_child
-  in_head : (below : List Tag) (root head : Tag) → bytes_eq head.name (codes "head") ≡ true → line ≡ below ++ (head ∷ root ∷ []) → Seeks line (head ∷ []) base_child
+  in_root : (root : ElementTag) → line ≡ root ∷ [] → Seeks line [] first_child
+  in_head : (below : List ElementTag) (root head : ElementTag) → bytes_eq head.name (codes "head") ≡ true → line ≡ below ++ (head ∷ root ∷ []) → Seeks line (head ∷ []) base_child
 
 -- a sign is a moment, or the seeking goes on
-data Steps (line children : List Tag) (s : Seeking) (sign : Sign) : Type 0 where
+data Steps (line children : List ElementTag) (s : Seeking) (sign : Sign) : Type 0 where
   knows : (href : Option Chars) → seek (length line) s sign ≡ known href → Moment line children sign href → Steps line children s sign
   goes_on : Seeks (line_on line sign) (children_on line children sign) (seek (length line) s sign) → ((href : Option Chars) → Moment line children sign href → ⊥) → Steps line children s sign
 
-moment_short : {line children : List Tag} {sign : Sign} {href : Option Chars} → Moment line children sign href → length line ≤ 2
+moment_short : {line children : List ElementTag} {sign : Sign} {href : Option Chars} → Moment line children sign href → length line ≤ 2
 moment_short (base_begins root head t href n b) = omega arith
 moment_short _ = omega arith
 
-moment_some : {line children : List Tag} {sign : Sign} {href : Option Chars} → Moment line children sign href → line ≡ [] → ⊥
+moment_some : {line children : List ElementTag} {sign : Sign} {href : Option Chars} → Moment line children sign href → line ≡ [] → ⊥
 moment_some (base_begins root head t href n b) e = cc
 moment_some _ e = cc
 
-none_said : {line children : List Tag} {sign : Sign} {href : Option Chars} (c : ℕ) → Moment line children sign href → sign ≡ said c → ⊥
+none_said : {line children : List ElementTag} {sign : Sign} {href : Option Chars} (c : ℕ) → Moment line children sign href → sign ≡ said c → ⊥
 none_said c (base_begins root head t href n b) e = cc
 none_said c _ e = cc
 
 -- in the root a child that is a head is none
-none_head : {line children : List Tag} {sign : Sign} {href : Option Chars} (t : StartTag) → Moment line children sign href → children ≡ [] → sign ≡ begun t → bytes_eq (read_tag t).name (codes "head") ≡ true → ⊥
+none_head : {line children : List ElementTag} {sign : Sign} {href : Option Chars} (t : StartTag) → Moment line children sign href → children ≡ [] → sign ≡ begun t → bytes_eq (read_tag t).name (codes "head") ≡ true → ⊥
 none_head t (body_begins root u n) e k h = (let same : u ≡ t = cc in let w : true ≡ false = sym h ∙ (ap (λ (x : StartTag). bytes_eq (read_tag x).name (codes "head")) (sym same) ∙ n) in cc)
 none_head t _ e k h = absurd (cc)
 
 -- in the head a child that is never base is none
-none_base : {line children : List Tag} {sign : Sign} {href : Option Chars} (t : StartTag) (head : Tag) → Moment line children sign href → children ≡ head ∷ [] → sign ≡ begun t → base_href (read_tag t) ≡ None → ⊥
+none_base : {line children : List ElementTag} {sign : Sign} {href : Option Chars} (t : StartTag) (head : ElementTag) → Moment line children sign href → children ≡ head ∷ [] → sign ≡ begun t → base_href (read_tag t) ≡ None → ⊥
 none_base t head (base_begins root other u href n b) e k h = (let same : u ≡ t = cc in let w : None ≡ Some href = sym h ∙ (ap (λ (x : StartTag). base_href (read_tag x)) (sym same) ∙ b) in cc)
 none_base t head _ e k h = absurd (cc)
 
-deep_length : (x : Tag) (below : List Tag) (root head : Tag) → length (x ∷ (below ++ (head ∷ root ∷ []))) ≡ suc (suc (suc (length below)))
+deep_length : (x : ElementTag) (below : List ElementTag) (root head : ElementTag) → length (x ∷ (below ++ (head ∷ root ∷ []))) ≡ suc (suc (suc (length below)))
 deep_length x below root head = let l = length-append below (head ∷ root ∷ []) in omega arith
 
-deep_child : (x : Tag) (below : List Tag) (root head : Tag) (children : List Tag) (sign : Sign) → children_on (x ∷ (below ++ (head ∷ root ∷ []))) children sign ≡ children
+deep_child : (x : ElementTag) (below : List ElementTag) (root head : ElementTag) (children : List ElementTag) (sign : Sign) → children_on (x ∷ (below ++ (head ∷ root ∷ []))) children sign ≡ children
 deep_child x [] root head children sign = refl
 deep_child x (y ∷ below) root head children sign = refl
 
@@ -56,7 +56,7 @@ by_unbegun : (sign : Sign) → Steps [] [] first_child sign
 by_unbegun (begun t) = goes_on (in_root (read_tag t) refl) (λ href m. moment_some m refl)
 by_unbegun _ = goes_on (unbegun refl) (λ href m. moment_some m refl)
 
-by_root : (root : Tag) (sign : Sign) → Steps (root ∷ []) [] first_child sign
+by_root : (root : ElementTag) (sign : Sign) → Steps (root ∷ []) [] first_child sign
 by_root root (said c) = goes_on (in_root root refl) (λ href m. none_said c m refl)
 by_root root finished = knows None refl (page_ends root)
 by_root root (begun t) = by (bytes_eq (read_tag t).name (codes "head")) refl
@@ -65,7 +65,7 @@ by_root root (begun t) = by (bytes_eq (read_tag t).name (codes "head")) refl
     by true e = goes_on (subst (λ s. Seeks (read_tag t ∷ root ∷ []) (read_tag t ∷ []) s) (ap (λ (b : Bool). if b then base_child else known None) (sym e)) (in_head [] root (read_tag t) e refl)) (λ href m. none_head t m refl refl e)
     by false e = knows None (ap (λ (b : Bool). if b then base_child else known None) e) (body_begins root t e)
 
-by_head : (root head : Tag) (n : bytes_eq head.name (codes "head") ≡ true) (sign : Sign) → Steps (head ∷ root ∷ []) (head ∷ []) base_child sign
+by_head : (root head : ElementTag) (n : bytes_eq head.name (codes "head") ≡ true) (sign : Sign) → Steps (head ∷ root ∷ []) (head ∷ []) base_child sign
 by_head root head n (said c) = goes_on (in_head [] root head n refl) (λ href m. none_said c m refl)
 by_head root head n finished = knows None refl (head_ends root head n)
 by_head root head n (begun t) = by (base_href (read_tag t)) refl
@@ -74,7 +74,7 @@ by_head root head n (begun t) = by (base_href (read_tag t)) refl
     by None e = goes_on (subst (λ s. Seeks (read_tag t ∷ head ∷ root ∷ []) (head ∷ []) s) (ap known_by (sym e)) (in_head (read_tag t ∷ []) root head n refl)) (λ href m. none_base t head m refl refl e)
     by (Some href) e = knows (Some href) (ap known_by e) (base_begins root head t href n e)
 
-by_deep : (x : Tag) (below : List Tag) (root head : Tag) (n : bytes_eq head.name (codes "head") ≡ true) (sign : Sign) → Steps (x ∷ (below ++ (head ∷ root ∷ []))) (head ∷ []) base_child sign
+by_deep : (x : ElementTag) (below : List ElementTag) (root head : ElementTag) (n : bytes_eq head.name (codes "head") ≡ true) (sign : Sign) → Steps (x ∷ (below ++ (head ∷ root ∷ []))) (head ∷ []) base_child sign
 by_deep x below root head n (said c) =
     goes_on (subst (λ cs. Seeks (x ∷ (below ++ (head ∷ root ∷ []))) cs base_child) (sym (deep_child x below root head (head ∷ []) (said c))) (in_head (x ∷ below) root head n refl)) (λ href m. none_said c m refl)
 by_deep x below root head n finished =
@@ -89,7 +89,7 @@ by_deep x below root head n (begun t) =
     (subst (λ cs. Seeks (read_tag t ∷ x ∷ (below ++ (head ∷ root ∷ []))) cs base_child) (sym (deep_child x below root head (head ∷ []) (begun t))) (in_head (read_tag t ∷ x ∷ below) root head n refl)))
     (λ href m. (let w = moment_short m in let l = deep_length x below root head in absurd (omega arith)))
 
-step : (line children : List Tag) (s : Seeking) (sign : Sign) → Seeks line children s → Steps line children s sign
+step : (line children : List ElementTag) (s : Seeking) (sign : Sign) → Seeks line children s → Steps line children s sign
 step line _ _ sign (unbegun e) = subst (λ l. Steps l [] first_child sign) (sym e) (by_unbegun sign)
 step line _ _ sign (in_root root e) = subst (λ l. Steps l [] first_child sign) (sym e) (by_root root sign)
 step line _ _ sign (in_head [] root head n e) = subst (λ l. Steps l (head ∷ []) base_child sign) (sym e) (by_head root head n sign)
@@ -129,7 +129,7 @@ data Comes (signs : List Sign) (s : Seeking) : Type 0 where
   is_known : (href : Option Chars) → s ≡ known href → IsKnown signs href → Comes signs s
   is_sought : ((href : Option Chars) → s ≡ known href → ⊥) → NoneAmong signs → Comes signs s
 
-unknown : {line children : List Tag} {s : Seeking} → Seeks line children s → (href : Option Chars) → s ≡ known href → ⊥
+unknown : {line children : List ElementTag} {s : Seeking} → Seeks line children s → (href : Option Chars) → s ≡ known href → ⊥
 unknown (unbegun e) href k = cc
 unknown _ href k = cc
 
@@ -156,7 +156,7 @@ comes : (signs : List Sign) → Comes signs (sought signs)
 comes signs = walk signs [] first_child (unbegun refl) none_of_none
 
 -- one moment is by one href
-one_href : {line children : List Tag} {sign : Sign} {a : Option Chars} → Moment line children sign a → {others more : List Tag} {other : Sign} {b : Option Chars} → Moment others more other b → children ≡ more → sign ≡ other → a ≡ b
+one_href : {line children : List ElementTag} {sign : Sign} {a : Option Chars} → Moment line children sign a → {others more : List ElementTag} {other : Sign} {b : Option Chars} → Moment others more other b → children ≡ more → sign ≡ other → a ≡ b
 one_href (base_begins root head t href n h) (base_begins root2 head2 t2 href2 n2 h2) c s = (let k : t ≡ t2 = cc in sym h ∙ (ap (λ (x : StartTag). base_href (read_tag x)) k ∙ h2))
 one_href (base_begins root head t href n h) (head_ends root2 head2 n2) c s = absurd (cc)
 one_href (base_begins root head t href n h) (body_begins root2 t2 n2) c s = absurd (cc)

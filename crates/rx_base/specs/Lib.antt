@@ -1,5 +1,4 @@
 pub mod Lines
-pub mod Tags
 pub mod Seekings
 pub mod Sought
 pub mod Moments

@@ -1,6 +1,6 @@
 -- The seeking of a page's base, sign by sign.
 use Rattle.std.specs.Prelude.{◌≡◌, ◌==◌, ℕ, List, [], ◌∷◌, length, Option, Some, None, codes, bytes_eq, if◌then◌else◌}
-use Rattle.rx_rdfa.specs.Common.{Chars, StartTag, Tree, end, element, root_href, Tag, attribute, read_tag, tags_of}
+use Rattle.rx_rdfa.specs.Common.{Chars, StartTag, Tree, end, element, root_href, ElementTag, attribute, read_tag, tags_of}
 use Rattle.rx_nest.specs.Signs.{Sign, begun, said, finished, signs_of}
 use Rattle.rx_base.specs.Lines.{line_on}
 
@@ -12,7 +12,7 @@ pub data Seeking : Type 0 where
   known : Option Chars → Seeking
 
 -- the href of an element that is a base
-abbrev pub base_href : Tag → Option Chars
+abbrev pub base_href : ElementTag → Option Chars
 base_href tag = if bytes_eq tag.name (codes "base") then attribute tag (codes "href") else None
 
 abbrev pub known_by : Option Chars → Seeking
@@ -20,7 +20,7 @@ known_by None = base_child
 known_by (Some href) = known (Some href)
 
 -- an element begins where so many are open
-abbrev pub seek_begun : ℕ → Seeking → Tag → Seeking
+abbrev pub seek_begun : ℕ → Seeking → ElementTag → Seeking
 seek_begun open_count first_child tag =
     if open_count == 1 then (if bytes_eq tag.name (codes "head") then base_child else known None) else first_child
 seek_begun open_count base_child tag = if open_count == 2 then known_by (base_href tag) else base_child
@@ -38,7 +38,7 @@ seek open_count seeking (said c) = seeking
 seek open_count seeking finished = seek_finished open_count seeking
 
 -- what is looked for, or was found, after some signs below a line
-abbrev pub seeks : List Tag → Seeking → List Sign → Seeking
+abbrev pub seeks : List ElementTag → Seeking → List Sign → Seeking
 seeks line seeking [] = seeking
 seeks line seeking (sign ∷ signs) = seeks (line_on line sign) (seek (length line) seeking sign) signs
 

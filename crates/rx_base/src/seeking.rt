@@ -7,7 +7,8 @@ ghost use Rattle.std.specs.Prelude.{◌≡◌, true, None, bytes_eq, if◌then�
 ghost use Rattle.rx_terms.specs.Common.{list_all, chars, is_ascii, seen_slice};
 ghost use Rattle.rx_base.specs.Seekings.{known, base_href, seek_begun, seek_finished, first_child, base_child};
 ghost use Rattle.rx_rdfa.specs.Tree.{attribute as attribute_of};
-ghost use Rattle.rx_base.specs.Tags.{tag_of};
+ghost use Rattle.rx_tags.specs.Seen.{tag_seen};
+ghost use Rattle.rx_rdfa.specs.Pages.{token_tag};
 ghost use Rattle.rx_base.specs.Sought.{sought_seen, clue_seen};
 
 use rx_tags::Tag;
@@ -31,7 +32,7 @@ pub enum BaseSearchStep<'a> {
 impl Sought {
     /// An element begins where so many are open.
     pub fn begun<'a>(self, count: usize, tag: &Tag<'a>) -> BaseSearchStep<'a>
-        ensures { clue_seen result ≡ seek_begun count (sought_seen self) (tag_of tag.now) }
+        ensures { clue_seen result ≡ seek_begun count (sought_seen self) (token_tag (tag_seen tag.now)) }
     {
         match self {
             Sought::FirstChild => first_begun(count, tag),
@@ -51,7 +52,7 @@ impl Sought {
 }
 
 fn first_begun<'a>(count: usize, tag: &Tag<'a>) -> BaseSearchStep<'a>
-    ensures { clue_seen result ≡ seek_begun count first_child (tag_of tag.now) }
+    ensures { clue_seen result ≡ seek_begun count first_child (token_tag (tag_seen tag.now)) }
 {
     if count != 1 {
         return BaseSearchStep::Seeks(Sought::FirstChild);
@@ -63,7 +64,7 @@ fn first_begun<'a>(count: usize, tag: &Tag<'a>) -> BaseSearchStep<'a>
 }
 
 fn child_begun<'a>(count: usize, tag: &Tag<'a>) -> BaseSearchStep<'a>
-    ensures { clue_seen result ≡ seek_begun count base_child (tag_of tag.now) }
+    ensures { clue_seen result ≡ seek_begun count base_child (token_tag (tag_seen tag.now)) }
 {
     if count != 2 {
         return BaseSearchStep::Seeks(Sought::BaseChild);
@@ -76,7 +77,7 @@ fn child_begun<'a>(count: usize, tag: &Tag<'a>) -> BaseSearchStep<'a>
 
 /// The href of an element that is a `base`.
 fn base_href<'a>(tag: &Tag<'a>) -> Option<&'a str>
-    ensures { seen_slice result ≡ base_href (tag_of tag.now) }
+    ensures { seen_slice result ≡ base_href (token_tag (tag_seen tag.now)) }
 {
     if !is_named(tag, "base") {
         return None;
@@ -87,7 +88,7 @@ fn base_href<'a>(tag: &Tag<'a>) -> Option<&'a str>
 /// Whether the element has this name, which is ASCII.
 fn is_named(tag: &Tag<'_>, name: &str) -> bool
     requires { list_all is_ascii name.now ≡ true }
-    ensures { result ≡ bytes_eq (tag_of tag.now).name name.now }
+    ensures { result ≡ bytes_eq (token_tag (tag_seen tag.now)).name name.now }
 {
     is_word(tag.name(), name)
 }
@@ -103,7 +104,7 @@ fn is_word(text: &str, word: &str) -> bool
 /// The value of the tag's first attribute of that name, which is ASCII.
 fn attribute<'a>(tag: &Tag<'a>, name: &str) -> Option<&'a str>
     requires { list_all is_ascii name.now ≡ true }
-    ensures { seen_slice result ≡ attribute_of (tag_of tag.now) name.now }
+    ensures { seen_slice result ≡ attribute_of (token_tag (tag_seen tag.now)) name.now }
 {
     tag.attr(name)
 }

@@ -2,23 +2,24 @@
 use Rattle.std.proofs.Common.{◌≡◌, ℕ, Bool, true, false, ◌&&◌, ◌==◌, List, [], ◌∷◌, ◌++◌, map, Some, None, refl, sym, ap, ◌∙◌, if◌then◌else◌}
 use Rattle.std.proofs.lemmas.Bool.{eqb-true}
 use Rattle.std.proofs.lemmas.Str.{encodes_same}
-use Rattle.rx_chars.specs.Characters.{Entry, IsRead, placed, without_mark, entered, normal, pairs_as_line_feed, as_line_end, begins_with_line_feed, line_end_given, line_end_entry, ends_with_return, given_list, carriage_return, line_feed}
+use Rattle.rx_chars.specs.Characters.{PlacedCharacter, IsRead, placed, without_mark, preprocessed, normal, pairs_as_line_feed, as_line_end, begins_with_line_feed, line_end_given, line_end_entry, ends_with_return, given_list}
 use Rattle.std.proofs.Math.Bool.{and-false}
+use Rattle.rx_terms.specs.Ascii.{carriage_return, line_feed}
 
-pub one_reading : (bytes : List ℕ) (some others : List Entry) → IsRead bytes some → IsRead bytes others → some ≡ others
+pub one_reading : (bytes : List ℕ) (some others : List PlacedCharacter) → IsRead bytes some → IsRead bytes others → some ≡ others
 one_reading bytes some others left right =
-    left.read ∙ (ap (λ characters. entered false (without_mark (placed 0 characters)))
+    left.read ∙ (ap (λ characters. preprocessed false (without_mark (placed 0 characters)))
     (encodes_same left.characters right.characters (left.forms ∙ sym right.forms)) ∙ sym right.read)
 
-abbrev values : List Entry → List ℕ
+abbrev values : List PlacedCharacter → List ℕ
 values = map (λ entry. entry.value)
 
 -- what the entries of one more character are worth, before and after a CR
-values-entered : (b : Bool) (entries : List Entry) → values (entered b entries) ≡ (if b then values (entered true entries) else values (entered false entries))
+values-entered : (b : Bool) (entries : List PlacedCharacter) → values (preprocessed b entries) ≡ (if b then values (preprocessed true entries) else values (preprocessed false entries))
 values-entered true entries = refl
 values-entered false entries = refl
 
-values-if : (b : Bool) (some others : List Entry) → values (if b then some else others) ≡ (if b then values some else values others)
+values-if : (b : Bool) (some others : List PlacedCharacter) → values (if b then some else others) ≡ (if b then values some else values others)
 values-if true some others = refl
 values-if false some others = refl
 
@@ -36,29 +37,29 @@ normal-pair c rest false is =
     sym (ap (λ b. map as_line_end (if b then pairs_as_line_feed (c ∷ rest) else carriage_return ∷ pairs_as_line_feed (c ∷ rest))) is)
 
 -- what is entered is normal, also behind a CR
-record Normal (entries : List Entry) : Type 0 where
-  alone : values (entered false entries) ≡ normal (values entries)
-  behind : (line_feed ∷ values (entered true entries)) ≡ normal (carriage_return ∷ values entries)
+record Normal (entries : List PlacedCharacter) : Type 0 where
+  alone : values (preprocessed false entries) ≡ normal (values entries)
+  behind : (line_feed ∷ values (preprocessed true entries)) ≡ normal (carriage_return ∷ values entries)
 
-normal_entries : (entries : List Entry) → Normal entries
+normal_entries : (entries : List PlacedCharacter) → Normal entries
 normal_entries [] = record { alone = refl; behind = refl }
 normal_entries (entry ∷ entries) =
     let rest = normal_entries entries in
-    let alone : values (entered false (entry ∷ entries)) ≡ normal (values (entry ∷ entries)) =
+    let alone : values (preprocessed false (entry ∷ entries)) ≡ normal (values (entry ∷ entries)) =
     ap (λ v. as_line_end entry.value ∷ v) (values-entered (entry.value == carriage_return) entries
-    ∙ ap (λ v. if entry.value == carriage_return then values (entered true entries) else v) rest.alone)
-    ∙ normal-cons entry.value (values entries) (values (entered true entries)) (entry.value == carriage_return) refl rest.behind in
+    ∙ ap (λ v. if entry.value == carriage_return then values (preprocessed true entries) else v) rest.alone)
+    ∙ normal-cons entry.value (values entries) (values (preprocessed true entries)) (entry.value == carriage_return) refl rest.behind in
     record {
       alone = alone;
       behind =
           ap (λ v. line_feed ∷ v)
-          (values-if (entry.value == line_feed) (entered false entries) (line_end_entry entry ∷ entered (entry.value == carriage_return) entries)
-          ∙ (ap (λ v. if entry.value == line_feed then v else values (entered false (entry ∷ entries))) rest.alone
+          (values-if (entry.value == line_feed) (preprocessed false entries) (line_end_entry entry ∷ preprocessed (entry.value == carriage_return) entries)
+          ∙ (ap (λ v. if entry.value == line_feed then v else values (preprocessed false (entry ∷ entries))) rest.alone
           ∙ ap (λ v. if entry.value == line_feed then normal (values entries) else v) alone))
           ∙ normal-pair entry.value (values entries) (entry.value == line_feed) refl;
     }
 
-pub enters_normal : (entries : List Entry) → values (entered false entries) ≡ normal (values entries)
+pub enters_normal : (entries : List PlacedCharacter) → values (preprocessed false entries) ≡ normal (values entries)
 enters_normal entries = (normal_entries entries).alone
 
 pub normal_grows : (characters : List ℕ) (c : ℕ) → normal (characters ++ c ∷ []) ≡ normal characters ++ given_list (line_end_given (ends_with_return characters) c)

@@ -2,30 +2,25 @@
 use Rattle.std.specs.Prelude.{◌≡◌, ℕ, ◌+◌, ◌-◌, Bool, true, false, ◌&&◌, ◌==◌, List, [], ◌∷◌, ◌++◌, map, Option, None, Some, encode_utf8_all, if◌then◌else◌}
 use Rattle.std.specs.Char.{len_utf8}
 use Rattle.std.specs.Str.{all_scalars}
-
-abbrev pub line_feed : ℕ
-line_feed = 0x0A
-
-abbrev pub carriage_return : ℕ
-carriage_return = 0x0D
+use Rattle.rx_terms.specs.Ascii.{carriage_return, line_feed}
 
 abbrev pub byte_order_mark : ℕ
 byte_order_mark = 0xFEFF
 
 -- a character, and the offsets of the first and the last byte of its UTF-8 form
-pub record Entry : Type 0 where
+pub record PlacedCharacter : Type 0 where
   pub value : ℕ
   pub first : ℕ
   pub last : ℕ
 
 -- the characters with their places, where their UTF-8 forms stand one directly after another from offset `at` on
-abbrev pub placed : ℕ → List ℕ → List Entry
+abbrev pub placed : ℕ → List ℕ → List PlacedCharacter
 placed at [] = []
 placed at (c ∷ characters) =
     record { value = c; first = at; last = at + len_utf8 c - 1 } ∷ placed (at + len_utf8 c) characters
 
 -- Encoding Standard, 6 (UTF-8 decode): a byte order mark that stands first is passed over.
-abbrev pub without_mark : List Entry → List Entry
+abbrev pub without_mark : List PlacedCharacter → List PlacedCharacter
 without_mark [] = []
 without_mark (entry ∷ entries) = if entry.value == byte_order_mark then entries else entry ∷ entries
 
@@ -33,24 +28,24 @@ without_mark (entry ∷ entries) = if entry.value == byte_order_mark then entrie
 abbrev pub as_line_end : ℕ → ℕ
 as_line_end c = if c == carriage_return then line_feed else c
 
-abbrev pub line_end_entry : Entry → Entry
+abbrev pub line_end_entry : PlacedCharacter → PlacedCharacter
 line_end_entry entry = record { value = as_line_end entry.value; first = entry.first; last = entry.last }
 
 -- HTML Standard, 13.2.3.5 (preprocessing the input stream), with places: a CR is entered as an LF at its own place, and
 -- an LF directly after a CR isn't entered. The first argument says whether the character directly before is a CR.
-abbrev pub entered : Bool → List Entry → List Entry
-entered after_return [] = []
-entered after_return (entry ∷ entries) =
-    if after_return && entry.value == line_feed then entered false entries
-    else line_end_entry entry ∷ entered (entry.value == carriage_return) entries
+abbrev pub preprocessed : Bool → List PlacedCharacter → List PlacedCharacter
+preprocessed after_return [] = []
+preprocessed after_return (entry ∷ entries) =
+    if after_return && entry.value == line_feed then preprocessed false entries
+    else line_end_entry entry ∷ preprocessed (entry.value == carriage_return) entries
 
 -- These are the characters of the page: its bytes are the UTF-8 forms of scalar values, one directly after another,
 -- and what is entered of them is the list.
-pub record IsRead (bytes : List ℕ) (entries : List Entry) : Type 0 where
+pub record IsRead (bytes : List ℕ) (entries : List PlacedCharacter) : Type 0 where
   pub characters : List ℕ
   pub scalars : all_scalars characters ≡ true
   pub forms : encode_utf8_all characters ≡ bytes
-  pub read : entries ≡ entered false (without_mark (placed 0 characters))
+  pub read : entries ≡ preprocessed false (without_mark (placed 0 characters))
 
 abbrev pub begins_with_line_feed : List ℕ → Bool
 begins_with_line_feed [] = false
@@ -82,11 +77,11 @@ given_list (Some c) = c ∷ []
 
 -- A page's bytes have at most one list of characters.
 abbrev pub OneReading : Type 0
-OneReading = (bytes : List ℕ) (some others : List Entry) → IsRead bytes some → IsRead bytes others → some ≡ others
+OneReading = (bytes : List ℕ) (some others : List PlacedCharacter) → IsRead bytes some → IsRead bytes others → some ≡ others
 
 -- What is entered are the characters with normalized newlines.
 abbrev pub EntersNormal : Type 0
-EntersNormal = (entries : List Entry) → map (λ e. e.value) (entered false entries) ≡ normal (map (λ e. e.value) entries)
+EntersNormal = (entries : List PlacedCharacter) → map (λ e. e.value) (preprocessed false entries) ≡ normal (map (λ e. e.value) entries)
 
 -- Characters with normalized newlines may be given one at a time.
 abbrev pub NormalGrows : Type 0

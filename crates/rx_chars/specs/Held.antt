@@ -16,9 +16,9 @@ held_bytes (Three a b c) = a ∷ b ∷ c ∷ []
 held_bytes Broken = broken_byte ∷ []
 
 -- what is held begins a character's sequence, or a byte was bad
-abbrev pub is_begun : Held → Bool
-is_begun Broken = true
-is_begun held = begins_sequence (held_bytes held)
+abbrev pub sequence_begun : Held → Bool
+sequence_begun Broken = true
+sequence_begun held = begins_sequence (held_bytes held)
 
 abbrev pub is_none_held : List ℕ → Bool
 is_none_held [] = true

@@ -3,13 +3,10 @@ use Rattle.std.specs.Prelude.{ℕ, ◌+◌, Bool, true, ◌==◌, ◌&&◌, List
 use Rattle.std.specs.List.{list_all}
 use Rattle.std.specs.Ordering.{is_lt, nat_cmp}
 use Rattle.std.specs.Cmp.Lexicographic.{slice_cmp}
+use Rattle.rx_terms.specs.Text.{onto_first}
 
 abbrev pub Row : Type 0
 Row = List ℕ × ℕ
-
-abbrev pub onto_first : ℕ → List (List ℕ) → List (List ℕ)
-onto_first c [] = (c ∷ []) ∷ []
-onto_first c (word ∷ words) = (c ∷ word) ∷ words
 
 -- the words between single spaces
 abbrev pub words : List ℕ → List (List ℕ)

@@ -1,5 +1,6 @@
 ghost use Rattle.std.specs.Prelude.{◌≡◌, ◌==◌, ℕ, Bool};
-ghost use Rattle.rx_chars.specs.Characters.{carriage_return, line_end_given};
+ghost use Rattle.rx_chars.specs.Characters.{line_end_given};
+ghost use Rattle.rx_terms.specs.Ascii.{carriage_return};
 
 use std::marker::Model;
 

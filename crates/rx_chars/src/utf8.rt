@@ -1,7 +1,7 @@
 ghost use Rattle.std.specs.Prelude.{◌≡◌, ◌+◌, ◌-◌, ◌*◌, ◌^◌, ◌<◌, ◌≤◌, ◌++◌, [], ◌∷◌, true};
 ghost use Rattle.std.specs.Char.{IsScalar};
 ghost use Rattle.rx_chars.specs.Utf8.{Answers, Leaves, answer_of, begins_sequence, is_in, tail};
-ghost use Rattle.rx_chars.specs.Held.{held_bytes, is_begun, is_none_held, fits_second};
+ghost use Rattle.rx_chars.specs.Held.{held_bytes, sequence_begun, is_none_held, fits_second};
 
 use std::marker::Model;
 
@@ -29,11 +29,11 @@ enum Held {
 impl Held {
     ghost use Rattle.std.specs.Prelude.{◌≡◌, ◌++◌, [], ◌∷◌, true};
     ghost use Rattle.rx_chars.specs.Utf8.{answer_of, begins_sequence};
-    ghost use Rattle.rx_chars.specs.Held.{held_bytes, is_begun};
+    ghost use Rattle.rx_chars.specs.Held.{held_bytes, sequence_begun};
 
     // What one more byte makes of these.
     fn answer(self, byte: u8) -> Utf8Step
-        requires { is_begun self ≡ true }
+        requires { sequence_begun self ≡ true }
         ensures { result ≡ answer_of (held_bytes self ++ byte ∷ []) }
     {
         match self {
@@ -49,7 +49,7 @@ impl Held {
     fn with(self, byte: u8) -> Held
         requires { begins_sequence (held_bytes self ++ byte ∷ []) ≡ true }
         ensures bytes { held_bytes result ≡ held_bytes self ++ byte ∷ [] }
-        ensures begun { is_begun result ≡ true }
+        ensures begun { sequence_begun result ≡ true }
     {
         match self {
             Held::Nothing => Held::One(byte),
@@ -69,13 +69,13 @@ pub struct Utf8 {
 
 impl Model for Utf8 {
     ghost use Rattle.std.specs.Prelude.{◌≡◌, ℕ, List, true};
-    ghost use Rattle.rx_chars.specs.Held.{held_bytes, is_begun};
+    ghost use Rattle.rx_chars.specs.Held.{held_bytes, sequence_begun};
 
     ghost Value = { List ℕ };
 
     ghost view = { λ utf8. held_bytes utf8.held };
 
-    ghost invariant = { λ utf8. is_begun utf8.held ≡ true };
+    ghost invariant = { λ utf8. sequence_begun utf8.held ≡ true };
 }
 
 impl Utf8 {

@@ -1,6 +1,6 @@
 -- How a run ends, exit by exit.
-use Rattle.rx_command.proofs.Common.{◌≡◌, ◌≢◌, ◌∙◌, ℕ, ◌⊎◌, inl, inr, List, [], refl, sym, ap, subst, Option, Some, None, append-nil, encode_utf8_all, Chars, Rose, file_of, ShelfContent, WhereKnown, GrowsBy, GrowsByPart, Stays, moves_same, moves_at, moves_weaker, Context, Fault, Job, Asked, Gathering, reads, gathers, samples, job, gathering_in, TaskGives, the_fault, the_text, IsContext, HasOther, context_in, NamesPage, IsLacking, LacksOne, JobLacks, JobText, JobRefused, TellsThat, WhereTold, IsGathered, DenotesGathered, Yields, Devices, SampleEnds, EndsAs, SaysAs, GatheringEnds, Says, SaysNothing, TakesJob, usage_line, context_line, refused_line, OfPage, IsAnswer, nothing_asked, of_sample, of_page, of_fault, no_file, no_context, of_pages, no_file_of_several, no_context_of_several, IsDue, EndsJob, RunEnds, answers, shelf_failed, out_failed, no_memory}
-use Rattle.rx_page.specs.Written.{text_of, Denoted}
+use Rattle.rx_command.proofs.Common.{◌≡◌, ◌≢◌, ◌∙◌, ℕ, ◌⊎◌, inl, inr, List, [], refl, sym, ap, subst, Option, Some, None, append-nil, encode_utf8_all, Chars, Rose, file_of, ShelfContent, WhereKnown, GrowsBy, GrowsByPart, Stays, moves_same, moves_at, moves_weaker, Context, Fault, Job, Asked, Gathering, reads, gathers, samples, job, gathering_in, TaskGives, the_fault, the_text, ContextHolds, HasWrongContext, context_in, NamesPage, IsLacking, LacksOne, JobLacks, JobText, JobRefused, TellsThat, WhereTold, IsGathered, DenotesGathered, Yields, Devices, SampleEnds, EndsAs, SaysAs, GatheringEnds, Says, SaysNothing, TakesJob, usage_line, context_line, refused_line, OfPage, IsAnswer, nothing_asked, of_sample, of_page, of_fault, no_file, no_context, of_pages, no_file_of_several, no_context_of_several, IsDue, EndsJob, RunEnds, answers, shelf_failed, out_failed, no_memory}
+use Rattle.rx_page.specs.Written.{output_text, Denoted}
 use Rattle.rx_page.specs.declared.outcomes.Outcome.{Outcome}
 use Rattle.rx_command.specs.declared.statuses.Status.{Status}
 use Rattle.rx_command.specs.declared.statuses.Status.TheVariants as status
@@ -37,7 +37,7 @@ page_there words told shelf tells holds bytes p h =
     record {
       context = p.context;
       bytes = bytes;
-      is_context = subst (λ (x : ShelfContent). IsContext p.asked.context x p.context) same p.holds;
+      is_context = subst (λ (x : ShelfContent). ContextHolds p.asked.context x p.context) same p.holds;
       file = subst (λ (x : ShelfContent). file_of x.files (encode_utf8_all p.asked.page) ≡ Some bytes) same p.file;
       holds_so = h;
     }
@@ -47,7 +47,7 @@ lacks_answer shelf (Some (reads asked)) h = no_file asked h
 lacks_answer shelf (Some (gathers g)) h = no_file_of_several g h
 lacks_answer shelf _ h = absurd h
 
-pub bad_answer : (shelf : ShelfContent) (k : Option Job) → HasOther (context_in k) shelf → IsAnswer shelf k status.BadContext [] context_line
+pub bad_answer : (shelf : ShelfContent) (k : Option Job) → HasWrongContext (context_in k) shelf → IsAnswer shelf k status.BadContext [] context_line
 bad_answer shelf (Some (reads asked)) h = no_context asked h
 bad_answer shelf (Some (gathers g)) h = no_context_of_several g h
 bad_answer shelf _ h = absurd h
@@ -96,7 +96,7 @@ module _ (words : List Chars) (old new : Devices) (shelf : ShelfContent) (tells 
       answers [] [] (at_job (Some (gathers g)) status.ReadFault [] [] j (no_file_of_several g (subst (TellsThat (LacksOne g)) tells lacks))) (grown_by_none old.held new.held stays)
       (silent old.said new.said old.say_faults new.say_faults says)
   several_at g j status.BadContext e says =
-      answers [] context_line (at_job (Some (gathers g)) status.BadContext [] context_line j (no_context_of_several g (subst (WhereTold (HasOther g.context)) tells e.1)))
+      answers [] context_line (at_job (Some (gathers g)) status.BadContext [] context_line j (no_context_of_several g (subst (WhereTold (HasWrongContext g.context)) tells e.1)))
       (grown_by_none old.held new.held e.3) says
   several_at g j status.Memory e says = no_memory refl e
   several_at g j _ e says = absurd e
@@ -109,23 +109,23 @@ module _ (words : List Chars) (old new : Devices) (shelf : ShelfContent) (tells 
     of_one : (s : Status) (text line : List ℕ) → IsAnswer shelf (Some (reads asked)) s text line → IsAnswer shelf (job words) s text line
     of_one s text line i = at_job (Some (reads asked)) s text line a i
 
-    pub ends_done : (found : Outcome) → WhereKnown (JobText asked found) old.told new.told → Denoted found → WhereKnown (GrowsBy (text_of found)) old.held new.held → SaysNothing old.said new.said old.say_faults new.say_faults
+    pub ends_done : (found : Outcome) → WhereKnown (JobText asked found) old.told new.told → Denoted found → WhereKnown (GrowsBy (output_text found)) old.held new.held → SaysNothing old.said new.said old.say_faults new.say_faults
         → EndsJob shelf (job words) status.Done old new
     ends_done found m denoted grows says =
         let r = moves_at shelf m tells in
         let p = (r.1).page in
-        answers (text_of found) []
-        (of_one status.Done (text_of found) []
-        (of_page asked (text_of found)
-        (record { context = (r.1).context; bytes = p.bytes; is_context = (r.1).holds; file = p.file; holds_so = the_text asked.task (r.1).context p.bytes (text_of found) p.gives (p.graph denoted) })))
+        answers (output_text found) []
+        (of_one status.Done (output_text found) []
+        (of_page asked (output_text found)
+        (record { context = (r.1).context; bytes = p.bytes; is_context = (r.1).holds; file = p.file; holds_so = the_text asked.task (r.1).context p.bytes (output_text found) p.gives (p.graph denoted) })))
         grows (silent old.said new.said old.say_faults new.say_faults says)
 
-    pub ends_partly : (found : Outcome) → WhereKnown (JobText asked found) old.told new.told → WhereKnown (GrowsByPart (text_of found)) old.held new.held → Rose old.write_faults new.write_faults → EndsJob shelf (job words) status.WriteFault old new
+    pub ends_partly : (found : Outcome) → WhereKnown (JobText asked found) old.told new.told → WhereKnown (GrowsByPart (output_text found)) old.held new.held → Rose old.write_faults new.write_faults → EndsJob shelf (job words) status.WriteFault old new
     ends_partly found m grows rose =
         let r = moves_at shelf m tells in
         let p = (r.1).page in
-        let due : IsDue shelf (Some (reads asked)) (text_of found) = record { context = (r.1).context; bytes = p.bytes; is_context = (r.1).holds; file = p.file; holds_so = p.gives } in
-        out_failed (text_of found) refl rose (subst (λ k. IsDue shelf k (text_of found)) (sym a) due) grows
+        let due : IsDue shelf (Some (reads asked)) (output_text found) = record { context = (r.1).context; bytes = p.bytes; is_context = (r.1).holds; file = p.file; holds_so = p.gives } in
+        out_failed (output_text found) refl rose (subst (λ k. IsDue shelf k (output_text found)) (sym a) due) grows
 
     pub ends_refused : (fault : Fault) → WhereKnown (JobRefused asked fault) old.told new.told → WhereKnown Stays old.held new.held → Says (refused_line fault) old.said new.said old.say_faults new.say_faults
         → EndsJob shelf (job words) (status.Refused fault) old new
@@ -143,7 +143,7 @@ module _ (words : List Chars) (old new : Devices) (shelf : ShelfContent) (tells 
         answers [] [] (of_one status.ReadFault [] [] (no_file asked (subst (TellsThat (IsLacking asked)) tells lacks))) (grown_by_none old.held new.held stays)
         (silent old.said new.said old.say_faults new.say_faults says)
 
-    pub ends_bad : WhereTold (HasOther asked.context) old.told → WhereKnown Stays old.held new.held → Says context_line old.said new.said old.say_faults new.say_faults → EndsJob shelf (job words) status.BadContext old new
+    pub ends_bad : WhereTold (HasWrongContext asked.context) old.told → WhereKnown Stays old.held new.held → Says context_line old.said new.said old.say_faults new.say_faults → EndsJob shelf (job words) status.BadContext old new
     ends_bad other stays says =
-        answers [] context_line (of_one status.BadContext [] context_line (no_context asked (subst (WhereTold (HasOther asked.context)) tells other)))
+        answers [] context_line (of_one status.BadContext [] context_line (no_context asked (subst (WhereTold (HasWrongContext asked.context)) tells other)))
         (grown_by_none old.held new.held stays) says

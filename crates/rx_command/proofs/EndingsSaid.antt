@@ -1,5 +1,5 @@
 -- What follows from how a run ends.
-use Rattle.rx_command.proofs.Common.{◌≡◌, ℕ, inl, inr, List, refl, sym, ap, subst, Option, Some, None, Chars, Rose, ShelfContent, WhereKnown, GrowsBy, GrowsByPart, Context, Fault, Job, Asked, Gathering, reads, gathers, samples, job, page_in, gathering_in, TaskGives, the_fault, HasContext, HasOther, context_in, NamesPage, HasPageFault, HasBadContext, JobLacks, HasAll, HasPages, SaysOfSample, Yields, YieldsBoth, Devices, EndsSo, OfPage, IsAnswer, nothing_asked, of_sample, of_page, of_fault, no_file, no_context, of_pages, no_file_of_several, no_context_of_several, IsDue, EndsJob, answers, shelf_failed, out_failed, no_memory, EndingsSay}
+use Rattle.rx_command.proofs.Common.{◌≡◌, ℕ, inl, inr, List, refl, sym, ap, subst, Option, Some, None, Chars, Rose, ShelfContent, WhereKnown, GrowsBy, GrowsByPart, Context, Fault, Job, Asked, Gathering, reads, gathers, samples, job, page_in, gathering_in, TaskGives, the_fault, HasContext, HasWrongContext, context_in, NamesPage, HasPageFault, HasBadContext, JobLacks, HasAll, HasPages, SaysOfSample, Yields, YieldsBoth, Devices, EndsSo, OfPage, IsAnswer, nothing_asked, of_sample, of_page, of_fault, no_file, no_context, of_pages, no_file_of_several, no_context_of_several, IsDue, EndsJob, answers, shelf_failed, out_failed, no_memory, EndingsSay}
 use Rattle.rx_page.specs.Outcomes.{IsTheFault, IsTheText}
 use Rattle.rx_command.specs.declared.statuses.Status.{Status}
 use Rattle.rx_command.specs.declared.statuses.Status.TheVariants as status
@@ -25,7 +25,7 @@ module _ (shelf : ShelfContent) where
   due_lacks (Some (gathers g)) text d l = gathered_lacks g shelf text d l
   due_lacks (Some (samples count)) text d l = l
 
-  due_other : (k : Option Job) (text : List ℕ) → IsDue shelf k text → HasOther (context_in k) shelf → ⊥
+  due_other : (k : Option Job) (text : List ℕ) → IsDue shelf k text → HasWrongContext (context_in k) shelf → ⊥
   due_other None text d o = d
   due_other (Some (reads asked)) text d o = page_other shelf asked (HasText asked text) d o
   due_other (Some (gathers g)) text d o = gathered_other g shelf text d o
@@ -61,8 +61,8 @@ module _ (words : List Chars) (old new : Devices) (shelf : ShelfContent) (tells 
   answer_refuses fault (of_fault asked _ a) j = record { bytes = a.bytes; page = named asked (λ context bytes. IsTheFault asked.task context bytes fault) a j; refused = (a.holds_so).refused }
 
   answer_bad : {k : Option Job} {text line : List ℕ} → IsAnswer shelf k status.BadContext text line → k ≡ job words → HasBadContext words old.told
-  answer_bad (no_context asked o) j = record { shelf = shelf; tells = tells; holds = subst (λ z. HasOther (context_in z) shelf) j o }
-  answer_bad (no_context_of_several g o) j = record { shelf = shelf; tells = tells; holds = subst (λ z. HasOther (context_in z) shelf) j o }
+  answer_bad (no_context asked o) j = record { shelf = shelf; tells = tells; holds = subst (λ z. HasWrongContext (context_in z) shelf) j o }
+  answer_bad (no_context_of_several g o) j = record { shelf = shelf; tells = tells; holds = subst (λ z. HasWrongContext (context_in z) shelf) j o }
 
   never_write : {k : Option Job} {text line : List ℕ} → ¬ IsAnswer shelf k status.WriteFault text line
   never_write a = elim a [ ]
@@ -101,7 +101,7 @@ module _ (words : List Chars) (old new : Devices) (shelf : ShelfContent) (tells 
     lacking (out_failed text f rose d part) l = absurd (due_lacks shelf (job words) text d l)
     lacking (no_memory f stays) l = inr f
 
-    refuses_context : EndsJob shelf (job words) s old new → HasOther (context_in (job words)) shelf → ¬ Rose old.read_faults new.read_faults → EndsSo s status.BadContext
+    refuses_context : EndsJob shelf (job words) s old new → HasWrongContext (context_in (job words)) shelf → ¬ Rose old.read_faults new.read_faults → EndsSo s status.BadContext
     refuses_context (answers text line a grows says) o quiet = inl (beside shelf a (bad_answer shelf (job words) o)).status_is
     refuses_context (shelf_failed f rose stays) o quiet = absurd (quiet rose)
     refuses_context (out_failed text f rose d part) o quiet = absurd (due_other shelf (job words) text d o)
@@ -146,7 +146,7 @@ endings_say words s old new shelf tells ends = record {
   refused = refused words old new shelf tells s ends;
   bad_context = bad_context words old new shelf tells s ends;
   lacking = λ l. lacking words old new shelf tells s ends (subst (JobLacks (job words)) (one_shelf old.told l.shelf shelf l.tells tells) l.holds);
-  refuses_context = λ b quiet. refuses_context words old new shelf tells s ends (subst (HasOther (context_in (job words))) (one_shelf old.told b.shelf shelf b.tells tells) b.holds) quiet;
+  refuses_context = λ b quiet. refuses_context words old new shelf tells s ends (subst (HasWrongContext (context_in (job words))) (one_shelf old.told b.shelf shelf b.tells tells) b.holds) quiet;
   refuses = refuses words old new shelf tells s ends;
   completes = completes words old new shelf tells s ends;
   completes_all = completes_all words old new shelf tells s ends;

@@ -1,5 +1,5 @@
 -- What was read of a file, read by read.
-use Rattle.rx_command.proofs.Common.{◌≡◌, ◌∙◌, ℕ, ◌+◌, ◌≤◌, ◌<◌, List, [], ◌∷◌, ◌++◌, length, take, sym, ap, refl, arith, Ok, Err, Some, append_assoc, length-append, length-take, ShelfContent, Starts, Reads, file_of, HasRead, ReadsFile, ReadsMore, TakesWithin, TakesOf, size_of}
+use Rattle.rx_command.proofs.Common.{◌≡◌, ◌∙◌, ℕ, ◌+◌, ◌≤◌, ◌<◌, List, [], ◌∷◌, ◌++◌, length, take, sym, ap, refl, arith, Ok, Err, Some, append_assoc, length-append, length-take, ShelfContent, Starts, ShelfReads, file_of, HasRead, ReadsFile, ReadsMore, TakesWithin, TakesOf, size_of}
 use Rattle.rx_ports.specs.declared.shelf.Failed.{Failed}
 
 -- nothing of a started file was read
@@ -17,7 +17,7 @@ empty_rest before now old [] f e l = refl
 empty_rest before now old (c ∷ new) f e l = absurd (omega (arith, ap length f, ap length e, length-append before old, length-append now (c ∷ new)))
 
 -- a read gave bytes, which were kept
-pub reads_on : (buf before now : List ℕ) (k : ℕ) (x y : ShelfContent) → Reads buf (Ok k) x y → 0 < length buf → k ≤ length buf → now ≡ before ++ take k buf → ReadsMore before now k x y
+pub reads_on : (buf before now : List ℕ) (k : ℕ) (x y : ShelfContent) → ShelfReads buf (Ok k) x y → 0 < length buf → k ≤ length buf → now ≡ before ++ take k buf → ReadsMore before now k x y
 reads_on buf before now k x y r room within e = record {
   files = r.files;
   bytes = ap (λ b. before ++ b) r.left ∙ sym (append_assoc before _ _) ∙ ap (λ b. b ++ y.left) (sym e);
@@ -51,7 +51,7 @@ read_past name bytes limit x y h past most = record { read = h; most = most; who
 
 -- ---- how much was taken
 
-pub reads_some : (buf : List ℕ) (k : ℕ) (x y : ShelfContent) → Reads buf (Ok k) x y → k ≤ length buf → TakesWithin (length buf) x y
+pub reads_some : (buf : List ℕ) (k : ℕ) (x y : ShelfContent) → ShelfReads buf (Ok k) x y → k ≤ length buf → TakesWithin (length buf) x y
 reads_some buf k x y r within = record {
   files = r.files;
   sum = omega (arith, ap length r.left, length-append (take k buf) y.left, length-take k buf, r.taken);

@@ -1,7 +1,7 @@
 -- From what was read of the files that a job names to what they are.
 use Rattle.std.proofs.lemmas.Result.{IfOk-weaker}
 use Rattle.std.specs.Prelude.{IsErrOf}
-use Rattle.rx_command.proofs.Common.{⊎_elim, nat_eq, ◌≡◌, ◌∙◌, ◌+◌, ◌≤◌, ◌<◌, ◌⊎◌, inl, inr, ℕ, true, false, List, [], ◌++◌, length, sym, ap, subst, refl, arith, Option, Some, None, Result, Ok, Err, IfOk, encode_utf8_all, length-append, append-nil, nat_le, ◌&&◌, is_some, nat_tests, Rose, file_of, ShelfContent, WhereKnown, Lacks, moves_same, moves_at, moves_then, Syntax, Fault, copied, numbered, Context, Asked, Task, Extraction, extracts, itemizes, checks, Way, largest_piece, page_limit, ReadsWhole, FindsFault, ReadsClean, IsClean, PageFails, HasFirst, GivesList, GivesRight, refuses_so, refuses_first, ReadsFile, TakesOf, size_of, IsContextFile, IsContext, HasContext, TakesContext, ReadsContext, context_size, PageText, PageRefused, JobText, JobRefused, TellsThat, WhereTold, IsRight, way_in, IsLacking, ReadsTo, as_read, ok_line, TakesFiles, StopsCleanly, Chars, Tree, Itemization, JsonText, HasItems, GivesItems}
+use Rattle.rx_command.proofs.Common.{⊎_elim, nat_eq, ◌≡◌, ◌∙◌, ◌+◌, ◌≤◌, ◌<◌, ◌⊎◌, inl, inr, ℕ, true, false, List, [], ◌++◌, length, sym, ap, subst, refl, arith, Option, Some, None, Result, Ok, Err, IfOk, encode_utf8_all, length-append, append-nil, nat_le, ◌&&◌, is_some, nat_tests, Rose, file_of, ShelfContent, WhereKnown, Lacks, moves_same, moves_at, moves_then, Syntax, Fault, copied, numbered, Context, Asked, Task, Extraction, extracts, itemizes, checks, Way, largest_piece, page_limit, ReadsWhole, FindsFault, ReadsClean, IsClean, PageFails, HasFirst, GivesList, GivesRight, refuses_so, refuses_first, ReadsFile, TakesOf, size_of, IsContextFile, ContextHolds, HasContext, TakesContext, ReadsContext, context_size, PageText, PageRefused, JobText, JobRefused, TellsThat, WhereTold, IsRight, way_in, IsLacking, ReadsAtMost, as_read, ok_line, TakesFiles, StopsCleanly, Chars, Tree, Itemization, JsonText, HasItems, PageHasItems}
 use Rattle.rx_model.proofs.Common.{by_test, triples_seen}
 use Rattle.rx_names.specs.ContextFiles.{context_of}
 use Rattle.rx_terms.specs.declared.triples.Triple.{Triple as CodeTriple}
@@ -11,7 +11,7 @@ use Rattle.rx_command.proofs.ReadLemmas.{unread_clean}
 use Rattle.rx_page.specs.Contexts.{largest_context, is_context}
 use Rattle.rx_page.proofs.ContextLemmas.{short, too_long}
 use Rattle.rx_page.specs.Forms.{form_in, IsFormText, FormDenotes}
-use Rattle.rx_page.specs.Written.{text_of, Denoted}
+use Rattle.rx_page.specs.Written.{output_text, Denoted}
 use Rattle.rx_page.specs.declared.forms.Form.{Form}
 use Rattle.rx_page.specs.declared.outcomes.Outcome.{Outcome, Outcome as Found}
 use Rattle.rx_page.proofs.MadeLemmas.{text_made}
@@ -73,7 +73,7 @@ if_context (Ok context) told now lent file e m = subst (λ f. WhereKnown (ReadsC
 if_context (Err error) told now lent file e m = tt
 
 -- one context holds
-pub one_context : (file : Option (List ℕ)) (shelf : ShelfContent) (a b : Context) → IsContext file shelf a → IsContext file shelf b → a ≡ b
+pub one_context : (file : Option (List ℕ)) (shelf : ShelfContent) (a b : Context) → ContextHolds file shelf a → ContextHolds file shelf b → a ≡ b
 one_context None shelf a b p q = p ∙ sym q
 one_context (Some name) shelf a b p q =
     let both : Some p.bytes ≡ Some q.bytes = sym p.file ∙ q.file in
@@ -82,7 +82,7 @@ one_context (Some name) shelf a b p q =
     (cc)
 
 -- a context that holds is there
-pub has_context : (file : Option (List ℕ)) (shelf : ShelfContent) (context : Context) → IsContext file shelf context → HasContext file shelf
+pub has_context : (file : Option (List ℕ)) (shelf : ShelfContent) (context : Context) → ContextHolds file shelf context → HasContext file shelf
 has_context None shelf context h = tt
 has_context (Some name) shelf context h =
     record { bytes = h.bytes; file = h.file; tested = ap (λ b. b && is_some (context_of h.bytes)) (short (length h.bytes) h.small) ∙ ap is_some h.reads }
@@ -90,11 +90,11 @@ has_context (Some name) shelf context h =
 -- ---- refusals
 
 -- no more was read than a piece past a first fault, whatever the task
-reads_to : (task : Task) (fault : Fault) (before now : ℕ) → now ≤ before + (fault.at + largest_piece) → ReadsTo task fault before now
+reads_to : (task : Task) (fault : Fault) (before now : ℕ) → now ≤ before + (fault.at + largest_piece) → ReadsAtMost task fault before now
 reads_to (itemizes i) fault before now l = λ k. l
 reads_to _ fault before now l = l
 
-reads_later : (task : Task) (fault : Fault) (a b now : ℕ) → a ≤ b → ReadsTo task fault a now → ReadsTo task fault b now
+reads_later : (task : Task) (fault : Fault) (a b now : ℕ) → a ≤ b → ReadsAtMost task fault a now → ReadsAtMost task fault b now
 reads_later (itemizes i) fault a b now l r = λ k. let m : now ≤ a + (fault.at + largest_piece) = r k in omega (arith, l, m)
 reads_later _ fault a b now l r = omega (arith, l, r)
 
@@ -139,7 +139,7 @@ page_right syntax context name named done e x y c =
     record { page = record { bytes = c.bytes; file = sym (ap (λ n. file_of x.files n) e) ∙ c.file; gives = right; graph = λ read. right; left = c.left }; starts = c.starts }
 
 pub page_text : (e : Extraction) (context : Context) (name named : List ℕ) (form : Form) (outcome : Outcome) (list : List CodeTriple) → named ≡ name → form ≡ form_in e.format e.graph context
-    → IsFormText form (numbered nat_eq (copied nat_eq (triples_seen list))) (text_of outcome) → (Denoted outcome → FormDenotes form (text_of outcome) (as_read (numbered nat_eq (copied nat_eq (triples_seen list)))))
+    → IsFormText form (numbered nat_eq (copied nat_eq (triples_seen list))) (output_text outcome) → (Denoted outcome → FormDenotes form (output_text outcome) (as_read (numbered nat_eq (copied nat_eq (triples_seen list)))))
     → (x y : ShelfContent) → ReadsWhole (GivesList e.syntax context e.address) named list x y → PageText (extracts e) context name outcome x y
 page_text e context name named form outcome list n f spelled denotes x y c =
     let made = text_made e context form outcome list c.bytes f spelled denotes c.gives in
@@ -225,14 +225,14 @@ job_done asked other file context r told mid now a b c is e reads low page =
 
 -- ---- items of a page, from what was read of it to what it is
 
-pub page_items : (i : Itemization) (context : Context) (name named : List ℕ) (kept : Kept) (outcome_is : Found) → named ≡ name → ((address : Chars) (tree : Tree) → AreItems address tree kept → JsonText address tree (text_of outcome_is))
-    → (x y : ShelfContent) → ReadsWhole (GivesItems i.syntax i.address) named kept x y → PageText (itemizes i) context name outcome_is x y
+pub page_items : (i : Itemization) (context : Context) (name named : List ℕ) (kept : Kept) (outcome_is : Found) → named ≡ name → ((address : Chars) (tree : Tree) → AreItems address tree kept → JsonText address tree (output_text outcome_is))
+    → (x y : ShelfContent) → ReadsWhole (PageHasItems i.syntax i.address) named kept x y → PageText (itemizes i) context name outcome_is x y
 page_items i context name named kept outcome_is n json x y c =
-    let has : HasItems i c.bytes (text_of outcome_is) = record { tree = c.gives.tree; page = c.gives.page; json = json i.address c.gives.tree c.gives.holds } in
+    let has : HasItems i c.bytes (output_text outcome_is) = record { tree = c.gives.tree; page = c.gives.page; json = json i.address c.gives.tree c.gives.holds } in
     record { page = record { bytes = c.bytes; file = sym (ap (λ n. file_of x.files n) n) ∙ c.file; gives = has; graph = λ read. has; left = c.left }; starts = c.starts }
 
 pub page_item_fault : (i : Itemization) (context : Context) (name named : List ℕ) (kept : Kept) (fault : Fault) → named ≡ name → ((address : Chars) (tree : Tree) → AreItems address tree kept → outcome standard_bounds address tree ≡ Refused fault)
-    → (x y : ShelfContent) → ReadsWhole (GivesItems i.syntax i.address) named kept x y → PageRefused (itemizes i) context name fault x y
+    → (x y : ShelfContent) → ReadsWhole (PageHasItems i.syntax i.address) named kept x y → PageRefused (itemizes i) context name fault x y
 page_item_fault i context name named kept fault n faulty x y c =
     let is : outcome standard_bounds i.address c.gives.tree ≡ Refused fault = faulty i.address c.gives.tree c.gives.holds in
     record {

@@ -1,8 +1,8 @@
 -- There is one answer to what is asked for.
-use Rattle.rx_command.proofs.Common.{◌≡◌, ◌∙◌, ℕ, inl, inr, List, [], ◌∷◌, refl, sym, ap, ap₂, subst, Option, Some, encode_utf8_all, Chars, ShelfContent, Syntax, Html, Tree, Fault, Context, refusal_laws, Job, Asked, Gathering, Listed, standard, rdfa_way, written, base_in, facts_in, TaskGives, one_first, page_has_none, tree_of_text, HasOther, IsLacking, LacksOne, FileList, GivesTriples, IsJudged, Judges, JudgesEach, IsGathered, IsSample, line_for, triples_in, sample_page, refused_line, OfPage, IsAnswer, nothing_asked, of_sample, of_page, of_fault, no_file, no_context, of_pages, no_file_of_several, no_context_of_several, IsSame, OneAnswer}
+use Rattle.rx_command.proofs.Common.{◌≡◌, ◌∙◌, ℕ, inl, inr, List, [], ◌∷◌, refl, sym, ap, ap₂, subst, Option, Some, encode_utf8_all, Chars, ShelfContent, Syntax, Html, Tree, Fault, Context, refusal_laws, Job, Asked, Gathering, Listed, standard_limits, rdfa_way, written, base_in, facts_in, TaskGives, one_first, page_has_none, tree_of_text, HasWrongContext, IsLacking, LacksOne, FileList, GivesTriples, IsJudged, Judges, JudgesEach, IsGathered, IsSample, line_for, triples_in, sample_page, refused_line, OfPage, IsAnswer, nothing_asked, of_sample, of_page, of_fault, no_file, no_context, of_pages, no_file_of_several, no_context_of_several, IsSame, OneAnswer}
 use Rattle.rx_pages.proofs.Trees.{one_tree}
-use Rattle.rx_many.specs.Pages.{Page, Judgement, refused, accepted}
-use Rattle.rx_many.specs.Writing.{gathered}
+use Rattle.rx_many.specs.Pages.{JudgedPage, Judgement, refused, accepted}
+use Rattle.rx_many.specs.Writing.{pages_document}
 use Rattle.rx_page.specs.Outcomes.{IsTheFault, IsTheText}
 use Rattle.rx_command.specs.declared.statuses.Status.{Status}
 use Rattle.rx_command.specs.declared.statuses.Status.TheVariants as status
@@ -19,18 +19,18 @@ module _ (syntax : Syntax) (context : Context) (address : Chars) (bytes : List �
   one_judgement (refused f) (accepted u) h k = absurd (page_has_none (rdfa_way syntax context) (refusal_laws context) bytes k.tree k.is.page k.is.accepted f h)
   one_judgement (accepted t) (refused g) h k = absurd (page_has_none (rdfa_way syntax context) (refusal_laws context) bytes h.tree h.is.page h.is.accepted g k)
   one_judgement (accepted t) (accepted u) h k =
-      let same : h.tree ≡ k.tree = one_tree syntax standard bytes h.tree k.tree h.is.page k.is.page in
+      let same : h.tree ≡ k.tree = one_tree syntax standard_limits bytes h.tree k.tree h.is.page k.is.page in
       ap accepted (h.given ∙ ap (λ (x : Tree). written (base_in address x) (facts_in context x)) same ∙ sym k.given)
 
 module _ (syntax : Syntax) (context : Context) (files : FileList) where
-  one_page : (listed : Listed) (p q : Page) → Judges GivesTriples syntax context files listed p → Judges GivesTriples syntax context files listed q → p ≡ q
+  one_page : (listed : Listed) (p q : JudgedPage) → Judges GivesTriples syntax context files listed p → Judges GivesTriples syntax context files listed q → p ≡ q
   one_page listed p q h k =
       let both : Some h.bytes ≡ Some k.bytes = sym h.file ∙ k.file in
       let same : h.bytes ≡ k.bytes = (cc) in
       let judged = one_judgement syntax context listed.address k.bytes p.judgement q.judgement (subst (λ x. IsJudged GivesTriples syntax context listed.address x p.judgement) same h.judged) k.judged in
       ap₂ (λ (a : Chars) (j : Judgement). record { address = a; judgement = j }) (h.address ∙ sym k.address) judged
 
-  one_list : (listed : List Listed) (a b : List Page) → JudgesEach GivesTriples syntax context files listed a → JudgesEach GivesTriples syntax context files listed b → a ≡ b
+  one_list : (listed : List Listed) (a b : List JudgedPage) → JudgesEach GivesTriples syntax context files listed a → JudgesEach GivesTriples syntax context files listed b → a ≡ b
   one_list [] [] [] h k = refl
   one_list [] (p ∷ ps) b h k = absurd h
   one_list (l ∷ more) [] b h k = absurd h
@@ -49,11 +49,11 @@ abbrev pub HasFault : Asked → Fault → Context → List ℕ → Type 0
 HasFault asked fault context bytes = IsTheFault asked.task context bytes fault
 
 module _ (shelf : ShelfContent) where
-  no_other_lacks : (asked : Asked) → HasOther asked.context shelf → IsLacking asked shelf → ⊥
+  no_other_lacks : (asked : Asked) → HasWrongContext asked.context shelf → IsLacking asked shelf → ⊥
   no_other_lacks asked o (inl l) = other_context asked.context shelf l o
   no_other_lacks asked o (inr l) = not_other asked.context shelf l.0 o
 
-  no_other_lacks_one : (g : Gathering) → HasOther g.context shelf → LacksOne g shelf → ⊥
+  no_other_lacks_one : (g : Gathering) → HasWrongContext g.context shelf → LacksOne g shelf → ⊥
   no_other_lacks_one g o (inl l) = other_context g.context shelf l o
   no_other_lacks_one g o (inr l) = not_other g.context shelf l.0 o
 
@@ -62,7 +62,7 @@ module _ (shelf : ShelfContent) where
       let context : i.context ≡ k.context = one_context g.context shelf i.context k.context i.holds k.holds in
       let pages : i.pages ≡ k.pages =
       one_list g.syntax k.context shelf.files g.pages i.pages k.pages (subst (λ (c : Context). JudgesEach GivesTriples g.syntax c shelf.files g.pages i.pages) context i.judged) k.judged in
-      i.spelled ∙ ap (λ (l : List Page). encode_utf8_all (gathered l)) pages ∙ sym k.spelled
+      i.spelled ∙ ap (λ (l : List JudgedPage). encode_utf8_all (pages_document l)) pages ∙ sym k.spelled
 
   -- what holds of the page is what holds of it
   pub at_same : (asked : Asked) (First Second : Context → List ℕ → Type 0) (a : OfPage asked shelf First) (b : OfPage asked shelf Second) → Second a.context a.bytes
@@ -74,7 +74,7 @@ module _ (shelf : ShelfContent) where
   pub page_lacks : (asked : Asked) (Holds : Context → List ℕ → Type 0) → OfPage asked shelf Holds → IsLacking asked shelf → ⊥
   page_lacks asked Holds a l = not_lack asked a.bytes shelf (has_context asked.context shelf a.context a.is_context) a.file l
 
-  pub page_other : (asked : Asked) (Holds : Context → List ℕ → Type 0) → OfPage asked shelf Holds → HasOther asked.context shelf → ⊥
+  pub page_other : (asked : Asked) (Holds : Context → List ℕ → Type 0) → OfPage asked shelf Holds → HasWrongContext asked.context shelf → ⊥
   page_other asked Holds a o = not_other asked.context shelf (has_context asked.context shelf a.context a.is_context) o
 
   -- a text that the task makes of the page isn't there beside a fault
@@ -95,7 +95,7 @@ module _ (shelf : ShelfContent) where
 
   once_sample : (count : ℕ) (line other : List ℕ) → IsSample count line → IsSample count other → line ≡ other
   once_sample count line other a b =
-      let same : a.tree ≡ b.tree = one_tree Html standard (sample_page count) a.tree b.tree a.is.page b.is.page in
+      let same : a.tree ≡ b.tree = one_tree Html standard_limits (sample_page count) a.tree b.tree a.is.page b.is.page in
       let deep : a.depth ≡ b.depth = one_deepest count a.depth b.depth a.deepest b.deepest in
       a.spelled ∙ (ap₂ (λ n (x : Tree). line_for count n (triples_in x)) deep same ∙ sym b.spelled)
 

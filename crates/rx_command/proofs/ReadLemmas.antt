@@ -1,5 +1,5 @@
 -- A page that is read as its bytes come.
-use Rattle.rx_command.proofs.Common.{◌≡◌, ◌∙◌, ℕ, ◌+◌, ◌≤◌, ◌<◌, List, [], ◌∷◌, ◌++◌, length, take, sym, ap, subst, refl, arith, Option, Some, Result, Ok, Err, append_assoc, append-nil, length-append, length-take, Chars, Syntax, Fault, Limits, Stops, Way, IsRefusal, Context, file_of, ShelfContent, WhereKnown, Reads, moves_then, moves_weaker, HasRead, TakesWithin, standard, setting_for, item_setting_for, HasFirst, largest_piece, DecidesFault, AddsRead, AddsNone, NextGives, EndFails, EndGives, ReadsWhole, FindsFault, ReadsClean, TakesToFirst, IsFile, FedFile, PageFails, PageGives, refused_from, no_bytes_read, clean_of}
+use Rattle.rx_command.proofs.Common.{◌≡◌, ◌∙◌, ℕ, ◌+◌, ◌≤◌, ◌<◌, List, [], ◌∷◌, ◌++◌, length, take, sym, ap, subst, refl, arith, Option, Some, Result, Ok, Err, append_assoc, append-nil, length-append, length-take, Chars, Syntax, Fault, Limits, Stops, Way, IsRefusal, Context, file_of, ShelfContent, WhereKnown, ShelfReads, moves_then, moves_weaker, HasRead, TakesWithin, standard_limits, setting_for, item_setting_for, HasFirst, largest_piece, DecidesFault, AddsRead, AddsNone, NextGives, EndFails, FileEndGives, ReadsWhole, FindsFault, ReadsClean, TakesToFirst, IsFile, FedFile, PageFails, PageGives, refused_from, no_bytes_read, clean_of}
 use Rattle.rx_walk.specs.Walks as walks
 use Rattle.rx_walk.specs.Walks.{Walked}
 use Rattle.rx_items.specs.Walks as item
@@ -7,23 +7,23 @@ use Rattle.rx_walk.specs.Checks as checks
 use Rattle.rx_walk.specs.Checks.{Checked}
 use Rattle.rx_command.specs.declared.errors.InputError.{InputError}
 use Rattle.rx_command.specs.declared.errors.InputError.TheVariants as error
-use Rattle.rx_page.specs.Readers.{IsRead}
+use Rattle.rx_page.specs.Readers.{IsReadPage}
 
 -- a reader that begins with the standard limits
-pub start_walk : (syntax : Syntax) (context : Context) (address : Chars) (l : Limits) (v : Walked) → l ≡ standard
+pub start_walk : (syntax : Syntax) (context : Context) (address : Chars) (l : Limits) (v : Walked) → l ≡ standard_limits
     → walks.WalkStands (record { syntax = syntax; limits = l; context = context }) address v [] → walks.WalkStands (setting_for syntax context) address v []
 start_walk syntax context address l v e st = subst (λ (x : Limits). walks.WalkStands (record { syntax = syntax; limits = x; context = context }) address v []) e st
 
-pub start_items : (syntax : Syntax) (address : Chars) (l : Limits) (v : item.Walked) → l ≡ standard
+pub start_items : (syntax : Syntax) (address : Chars) (l : Limits) (v : item.ItemsWalked) → l ≡ standard_limits
     → item.ItemWalkStands (record { syntax = syntax; limits = l; address = address }) v [] → item.ItemWalkStands (item_setting_for syntax address) v []
 start_items syntax address l v e st = subst (λ (x : Limits). item.ItemWalkStands (record { syntax = syntax; limits = x; address = address }) v []) e st
 
-pub start_check : (syntax : Syntax) (context : Context) (l : Limits) (v : Checked) → l ≡ standard
+pub start_check : (syntax : Syntax) (context : Context) (l : Limits) (v : Checked) → l ≡ standard_limits
     → checks.CheckStands (record { syntax = syntax; limits = l; context = context }) v [] → checks.CheckStands (setting_for syntax context) v []
 start_check syntax context l v e st = subst (λ (x : Limits). checks.CheckStands (record { syntax = syntax; limits = x; context = context }) v []) e st
 
 -- a read
-pub read_adds : (buf : List ℕ) (k : ℕ) (x y : ShelfContent) → Reads buf (Ok k) x y → 0 < length buf → k ≤ length buf → AddsRead (take k buf) x y
+pub read_adds : (buf : List ℕ) (k : ℕ) (x y : ShelfContent) → ShelfReads buf (Ok k) x y → 0 < length buf → k ≤ length buf → AddsRead (take k buf) x y
 read_adds buf k x y r room within =
     record {
       files = r.files;
@@ -59,11 +59,11 @@ found way name bytes more fault x y z h a small f =
 
 module _ (way : Way) (law : IsRefusal way.refused) where
   -- a piece that is refused
-  pub piece_refused : (bytes piece : List ℕ) (fault : Fault) → IsRead way bytes → Stops way (bytes ++ piece) fault → DecidesFault way bytes piece fault
+  pub piece_refused : (bytes piece : List ℕ) (fault : Fault) → IsReadPage way bytes → Stops way (bytes ++ piece) fault → DecidesFault way bytes piece fault
   piece_refused bytes piece fault i s =
       record { stays = s.stays; from = refused_from way law bytes piece i.now i.read i.accepted fault (subst (λ x. HasFirst way x fault) (append-nil (bytes ++ piece)) (s.stays [])) }
 
-  read_clean : (name bytes : List ℕ) (x y z : ShelfContent) → HasRead name bytes x y → AddsNone y z → IsRead way bytes → ReadsClean way name x z
+  read_clean : (name bytes : List ℕ) (x y z : ShelfContent) → HasRead name bytes x y → AddsNone y z → IsReadPage way bytes → ReadsClean way name x z
   read_clean name bytes x y z h a i file f =
       record { bytes = bytes; rest = y.left; are = some_file file (bytes ++ y.left) (sym f ∙ h.file); taken = omega (arith, h.taken, a.taken); clean = clean_of way law bytes i }
 
@@ -72,7 +72,7 @@ module _ (way : Way) (law : IsRefusal way.refused) where
   unread_clean name x y t file f = record { bytes = []; rest = file; are = refl; taken = omega (arith, t); clean = clean_of way law [] (no_bytes_read way law) }
 
   -- some bytes were read, and no more than a piece was taken behind them
-  pub to_first : (name bytes : List ℕ) (room : ℕ) (x y z : ShelfContent) → IsRead way bytes → HasRead name bytes x y → TakesWithin room y z → room ≤ largest_piece → TakesToFirst way name x z
+  pub to_first : (name bytes : List ℕ) (room : ℕ) (x y z : ShelfContent) → IsReadPage way bytes → HasRead name bytes x y → TakesWithin room y z → room ≤ largest_piece → TakesToFirst way name x z
   to_first name bytes room x y z i h t small file f fault first =
       let same : file ≡ bytes ++ y.left = some_file file (bytes ++ y.left) (sym f ∙ h.file) in
       let from = refused_from way law bytes y.left i.now i.read i.accepted fault (subst (λ b. HasFirst way b fault) same first) in
@@ -96,7 +96,7 @@ module _ {R : Type 0} (way : Way) (stands : R → List ℕ → Type 0) (name : L
         read = moves_then (HasRead name (s.bytes ++ g.0)) (λ x y z h a. has_more name s.bytes g.0 x y z h a) s.read g.3;
       }
 
-  pub next_found : (law : IsRefusal way.refused) (v w : R) (n : ℕ) (e : InputError) (before now later : Option ShelfContent) (s : SoFar stands name v n before now) → IsRead way s.bytes
+  pub next_found : (law : IsRefusal way.refused) (v w : R) (n : ℕ) (e : InputError) (before now later : Option ShelfContent) (s : SoFar stands name v n before now) → IsReadPage way s.bytes
       → NextGives way stands s.bytes (Err e) w now later → PageFails way name e before later
   next_found law v w n (error.Refused fault) before now later s i g =
       moves_then (FindsFault way name fault) (λ x y z h a. found way name s.bytes g.0 fault x y z h a g.1 g.2) s.read g.3
@@ -138,6 +138,6 @@ fails_at_end way stands name v before now f error.NoMemory e = tt
 fails_at_end way stands name v before now f _ e = absurd e
 
 pub fed_ends : {R A : Type 0} (way : Way) (stands : R → List ℕ → Type 0) (holds : List ℕ → A → Type 0) (name : List ℕ) (v : R) (before now : Option ShelfContent) (f : FedFile stands name v before now) (result : Result A InputError)
-    → EndGives way holds f.bytes result → PageGives way holds name result before now
+    → FileEndGives way holds f.bytes result → PageGives way holds name result before now
 fed_ends way stands holds name v before now f (Ok given) e = moves_weaker (ReadsWhole holds name given) (λ x y i. record { bytes = f.bytes; file = i.file; left = i.left; starts = i.starts; gives = e }) f.read
 fed_ends way stands holds name v before now f (Err why) e = fails_at_end way stands name v before now f why e

@@ -1,12 +1,12 @@
 -- Each worked row by its rule.
-use Rattle.rx_command.proofs.Common.{◌≡◌, ℕ, ◌≤◌, inl, inr, List, [], ◌∷◌, refl, subst, Some, None, Err, codes, Html, Fault, page_read, end_of, finds_only_faults, refusal_laws, standard, rdfa_way, HasFirst, end_first, the_fault, Asked, extracts, checks, most_items, IsRight, the_text, sample_page, nothing_asked, of_page, of_fault, no_file, no_context, no_file_of_several, refused_line, RowsAreAnswered, Row, file, small_page, small_text, check_words, extract_words, many_words, sym, ap, arith, encode_utf8_all, Tree, reads_only_pages, Iri, Literal, Plain, Triple, spo, written, Gathering, Itemization, itemizes, base_in, facts_in, HasItems, JsonText, no_bytes_read, GivesTriples, JudgesEach, IsGathered, DenotesGathered, of_pages, shelf_with, item_page, item_text, item_words, many_files, many_text}
+use Rattle.rx_command.proofs.Common.{◌≡◌, ℕ, ◌≤◌, inl, inr, List, [], ◌∷◌, refl, subst, Some, None, Err, codes, Html, Fault, page_read, page_ended, finds_only_faults, refusal_laws, standard_limits, rdfa_way, HasFirst, end_first, the_fault, Asked, extracts, checks, most_items, IsRight, the_text, sample_page, nothing_asked, of_page, of_fault, no_file, no_context, no_file_of_several, refused_line, RowsAreAnswered, Row, file, small_page, small_text, check_words, extract_words, many_words, sym, ap, arith, encode_utf8_all, Tree, reads_only_pages, Iri, Literal, Plain, Triple, spo, written, Gathering, Itemization, itemizes, base_in, facts_in, HasItems, JsonText, no_bytes_read, GivesTriples, JudgesEach, IsGathered, DenotesGathered, of_pages, shelf_with, item_page, item_text, item_words, many_files, many_text}
 use Rattle.std.specs.Fmt.{digits}
 use lib.Utf8.{encode}
 use Rattle.std.specs.Str.{is_utf8, chars}
 use Rattle.json.specs.Json.{value}
 use Rattle.json.specs.Lex.{lex, punctuate}
 use Rattle.rx_grammar.specs.declared.faults.Kind.TheVariants.{Unended, Mismatch, RelativeVocab}
-use Rattle.rx_page.specs.Readers.{IsRead}
+use Rattle.rx_page.specs.Readers.{IsReadPage}
 use Rattle.rx_job.specs.declared.formats.Format.TheVariants.{Nquads}
 use Rattle.rx_command.proofs.SampleTokens.{samples_are_pages}
 use Rattle.rx_command.proofs.WorkedPages.{sample_row, read_to, small_is, extraction, small_has, small_denotes, mismatched, mismatch_first, relative, relative_first, first_tree, small_tree, iri_writable}
@@ -22,10 +22,10 @@ use Rattle.rx_rdfa.specs.Inherited.{below}
 use Rattle.rx_rdfa.specs.Times.{time_kind}
 use Rattle.rx_rdfa.specs.Element.{start_of, end_of as element_end}
 use Rattle.rx_rdfa.specs.Lists.{entries_at, cells}
-use Rattle.rx_many.specs.Lines.{Line, comment, statement, lines_from, numbered_lines, kept}
-use Rattle.rx_many.specs.Pages.{Page, refused_page, accepted_page}
-use Rattle.rx_many.specs.Standing.{WritableLine, Spells}
-use Rattle.rx_many.specs.Writing.{gathered}
+use Rattle.rx_many.specs.Lines.{QuadLine, comment, statement, lines_from, numbered_lines, distinct_lines}
+use Rattle.rx_many.specs.Pages.{JudgedPage, refused_page, accepted_page}
+use Rattle.rx_many.specs.Standing.{WritableLine, SpellsLines}
+use Rattle.rx_many.specs.Writing.{pages_document}
 use Rattle.rx_many.proofs.DatasetLemmas.{denotes_pages}
 use Rattle.rx_command.proofs.GatheringLemmas.{judged_graphs}
 use Rattle.rx_rdfa.specs.Standard as names
@@ -55,23 +55,23 @@ ended = record { kind = Unended; token = 0; at = 0 }
 
 pub empty_first : HasFirst (rdfa_way Html names.standard) [] ended
 empty_first =
-    end_first (rdfa_way Html names.standard) (refusal_laws names.standard) [] ended (no_bytes_read (rdfa_way Html names.standard) (refusal_laws names.standard)) (finds_only_faults Html standard [] ended refl)
+    end_first (rdfa_way Html names.standard) (refusal_laws names.standard) [] ended (no_bytes_read (rdfa_way Html names.standard) (refusal_laws names.standard)) (finds_only_faults Html standard_limits [] ended refl)
 
-abbrev two_judged : List Page
+abbrev two_judged : List JudgedPage
 two_judged = accepted_page (codes "http://a.example/") (a_triple ∷ []) ∷ refused_page (codes "http://b.example/") ended ∷ []
 
 are_judged : JudgesEach GivesTriples Html names.standard many_files two_pages.pages two_judged
 unfolding encode
 are_judged = (record { bytes = small_page; file = refl; address = refl; judged = a_gives }, (record { bytes = []; file = refl; address = refl; judged = empty_first }, tt))
 
-many_spelled : many_text ≡ encode_utf8_all (gathered two_judged)
+many_spelled : many_text ≡ encode_utf8_all (pages_document two_judged)
 unfolding encode digits components_of step without_dots target resolved
 many_spelled = refl
 
-abbrev two_lines : List (Line ℕ)
+abbrev two_lines : List (QuadLine ℕ)
 two_lines = statement (codes "http://a.example/") a_triple ∷ comment (codes "http://b.example/") ended ∷ []
 
-lines_are : two_lines ≡ kept (numbered_lines (lines_from 0 two_judged))
+lines_are : two_lines ≡ distinct_lines (numbered_lines (lines_from 0 two_judged))
 unfolding components_of step without_dots target resolved
 lines_are = refl
 
@@ -83,13 +83,13 @@ a_writable = record {
   graph = iri_writable (codes "http://a.example/") refl refl refl;
 }
 
-are_writable : (line : Line ℕ) → Among two_lines line → WritableLine line
-are_writable line (inl e) = subst (λ (x : Line ℕ). WritableLine x) e a_writable
-are_writable line (inr (inl e)) = subst (λ (x : Line ℕ). WritableLine x) e (record { iri = iri_writable (codes "http://b.example/") refl refl refl; at = omega arith; token = omega arith })
+are_writable : (line : QuadLine ℕ) → Among two_lines line → WritableLine line
+are_writable line (inl e) = subst (λ (x : QuadLine ℕ). WritableLine x) e a_writable
+are_writable line (inr (inl e)) = subst (λ (x : QuadLine ℕ). WritableLine x) e (record { iri = iri_writable (codes "http://b.example/") refl refl refl; at = omega arith; token = omega arith })
 are_writable line (inr (inr m)) = absurd m
 
-many_spells : Spells many_text (numbered_lines (lines_from 0 two_judged))
-many_spells = record { spelled = many_spelled; writable = λ line m. are_writable line (subst (λ (xs : List (Line ℕ)). Among xs line) (sym lines_are) m) }
+many_spells : SpellsLines many_text (numbered_lines (lines_from 0 two_judged))
+many_spells = record { spelled = many_spelled; writable = λ line m. are_writable line (subst (λ (xs : List (QuadLine ℕ)). Among xs line) (sym lines_are) m) }
 
 are_gathered : IsGathered two_pages many_text (shelf_with many_files)
 are_gathered = record { context = names.standard; holds = refl; pages = two_judged; judged = are_judged; spelled = many_spelled }
@@ -109,7 +109,7 @@ gathered_row = of_pages two_pages many_text are_gathered are_denoted
 -- ---- items
 
 abbrev item_tree : Tree
-item_tree = first_tree (told_trees (read_to (page_read Html standard item_page)).told)
+item_tree = first_tree (told_trees (read_to (page_read Html standard_limits item_page)).told)
 
 abbrev itemization : Itemization
 itemization = record { syntax = Html; address = codes "http://localhost/" }
@@ -124,7 +124,7 @@ item_value = value_in (outcome standard_bounds (codes "http://localhost/") item_
 has_items : HasItems itemization item_page item_text
 unfolding components_of step without_dots target resolved encode escape_byte
 has_items =
-    let r = reads_only_pages Html standard item_page (read_to (page_read Html standard item_page)) refl in
+    let r = reads_only_pages Html standard_limits item_page (read_to (page_read Html standard_limits item_page)) refl in
     let same : item_tree ≡ r.tree = ap first_tree r.trees in
     record { tree = r.tree; page = r.page; json = subst (λ t. JsonText (codes "http://localhost/") t item_text) same (record { value = item_value; given = refl; spelled = refl }) }
 
@@ -195,8 +195,8 @@ refused_so bytes fault line e first =
     (of_fault a_check fault (record { context = names.standard; bytes = bytes; is_context = refl; file = refl; holds_so = the_fault (checks Html) names.standard bytes fault first }))
 
 -- bytes that are read, and end too early
-unended_so : (bytes : List ℕ) (fault : Fault) → IsRead (rdfa_way Html names.standard) bytes → end_of (page_read Html standard bytes) ≡ Err fault → HasFirst (rdfa_way Html names.standard) bytes fault
-unended_so bytes fault read e = end_first (rdfa_way Html names.standard) (refusal_laws names.standard) bytes fault read (finds_only_faults Html standard bytes fault e)
+unended_so : (bytes : List ℕ) (fault : Fault) → IsReadPage (rdfa_way Html names.standard) bytes → page_ended (page_read Html standard_limits bytes) ≡ Err fault → HasFirst (rdfa_way Html names.standard) bytes fault
+unended_so bytes fault read e = end_first (rdfa_way Html names.standard) (refusal_laws names.standard) bytes fault read (finds_only_faults Html standard_limits bytes fault e)
 
 pub empty : Row check_words (file []) (status.Refused (record { kind = Unended; token = 0; at = 0 })) [] (codes "refused: Unended at byte 0 in token 0\n")
 unfolding digits
@@ -205,8 +205,8 @@ empty = refused_so [] ended (codes "refused: Unended at byte 0 in token 0\n") re
 abbrev cut_page : List ℕ
 cut_page = codes "<html><p>a</p>"
 
-cut_read : IsRead (rdfa_way Html names.standard) cut_page
-cut_read = record { now = read_to (page_read Html standard cut_page); read = refl; accepted = refl }
+cut_read : IsReadPage (rdfa_way Html names.standard) cut_page
+cut_read = record { now = read_to (page_read Html standard_limits cut_page); read = refl; accepted = refl }
 
 pub cut_short : Row check_words (file (codes "<html><p>a</p>")) (status.Refused (record { kind = Unended; token = 14; at = 14 })) [] (codes "refused: Unended at byte 14 in token 14\n")
 unfolding digits

@@ -1,5 +1,5 @@
 -- From what was read of the files to what comes of the page.
-use Rattle.rx_command.proofs.Common.{◌≡◌, ◌≢◌, ◌∙◌, ℕ, ◌⊎◌, ◌≤◌, inl, inr, List, [], ◌∷◌, sym, ap, subst, refl, Option, Some, None, true, false, encode_utf8_all, arith, option_and_then, codes, option_map, Rose, ShelfContent, WhereKnown, Stays, file_of, moves_same, moves_weaker, Fault, Asked, Gathering, Job, reads, gathers, samples, count_of, sampling, several, extraction, itemization, checking, given, is_word, most_items, job, page_in, page_asked, HasContext, HasOther, LacksContext, IsLacking, JobLacks, JobText, JobRefused, TellsThat, SampleEnds, ReadCause, TakesFiles, TakesJob, TakesToFault, ReadsAll, reads_files}
+use Rattle.rx_command.proofs.Common.{◌≡◌, ◌≢◌, ◌∙◌, ℕ, ◌⊎◌, ◌≤◌, inl, inr, List, [], ◌∷◌, sym, ap, subst, refl, Option, Some, None, true, false, encode_utf8_all, arith, option_and_then, codes, option_map, Rose, ShelfContent, WhereKnown, Stays, file_of, moves_same, moves_weaker, Fault, Asked, Gathering, Job, reads, gathers, samples, count_of, sampling, several, extraction, itemization, checking, arguments_given, is_word, most_items, job, page_in, page_asked, HasContext, HasWrongContext, LacksContext, IsLacking, JobLacks, JobText, JobRefused, TellsThat, SampleEnds, ReadCause, TakesFiles, TakesJob, TakesToFault, ReadsAll, reads_files}
 use Rattle.rx_terms.proofs.Bools.{split}
 use Rattle.rx_job.proofs.NumberLemmas.{few_counted}
 use Rattle.rx_page.specs.Contexts.{is_context}
@@ -46,9 +46,9 @@ few_asked [] count e = absurd (cc)
 few_asked (task ∷ words) count e =
     split (IsFew count) (is_word task (codes "sample")) (sampling words) _ (λ t k. few_sampled words count k)
     (λ f. split (IsFew count) (is_word task (codes "many")) (option_map gathers (several words)) _ (λ t k. absurd (no_gathering (several words) count k))
-    (λ f. split (IsFew count) (is_word task (codes "extract")) (option_map reads (option_and_then extraction (given words))) _ (λ t k. absurd (no_reading (option_and_then extraction (given words)) count k))
-    (λ f. split (IsFew count) (is_word task (codes "items")) (option_map reads (option_and_then itemization (given words))) _ (λ t k. absurd (no_reading (option_and_then itemization (given words)) count k))
-    (λ f. split (IsFew count) (is_word task (codes "check")) (option_map reads (option_and_then checking (given words))) None (λ t k. absurd (no_reading (option_and_then checking (given words)) count k)) (λ f k. absurd (cc))))))
+    (λ f. split (IsFew count) (is_word task (codes "extract")) (option_map reads (option_and_then extraction (arguments_given words))) _ (λ t k. absurd (no_reading (option_and_then extraction (arguments_given words)) count k))
+    (λ f. split (IsFew count) (is_word task (codes "items")) (option_map reads (option_and_then itemization (arguments_given words))) _ (λ t k. absurd (no_reading (option_and_then itemization (arguments_given words)) count k))
+    (λ f. split (IsFew count) (is_word task (codes "check")) (option_map reads (option_and_then checking (arguments_given words))) None (λ t k. absurd (no_reading (option_and_then checking (arguments_given words)) count k)) (λ f k. absurd (cc))))))
     e
 
 pub sample_nothing : (count : ℕ) (s : Status) (old new : Option (List ℕ)) (before now : ℕ) → SampleEnds count s old new before now → s ≢ status.Done → s ≢ status.WriteFault → WhereKnown Stays old new
@@ -62,7 +62,7 @@ pub there : (file : Option (List ℕ)) (bytes : List ℕ) → file ≡ Some byte
 there file bytes e f = let g : None ≡ Some bytes = sym f ∙ e in absurd (cc)
 
 -- a context file is one of a context, one of another shape, or missing
-pub not_other : (file : Option (List ℕ)) (shelf : ShelfContent) → HasContext file shelf → HasOther file shelf → ⊥
+pub not_other : (file : Option (List ℕ)) (shelf : ShelfContent) → HasContext file shelf → HasWrongContext file shelf → ⊥
 not_other None shelf h o = o
 not_other (Some name) shelf h o =
     let both : Some h.bytes ≡ Some o.bytes = sym h.file ∙ o.file in

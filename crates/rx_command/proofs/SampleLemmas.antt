@@ -1,5 +1,5 @@
 -- The sample page as it is fed.
-use Rattle.rx_command.proofs.Common.{◌≡◌, ◌∙◌, ℕ, suc, nat_eq, ◌+◌, ◌≤◌, ◌<◌, ◌⊎◌, inl, inr, ⊎_elim, List, [], ◌++◌, length, refl, sym, ap, subst, arith, None, Result, Ok, Err, IfOk, OnOk, encode_utf8_all, append_assoc, append-nil, length-append, nat_lt, nat_tests, Chars, Html, Limits, Context, Fault, copied, numbered, Triple, Way, standard, setting_for, rdfa_way, most_items, head, item_before, item_behind, items_to, cut_in, sample_page, tail, HasDepth, IsCut, in_item, at_end, IsDeepest, sample_setting, sample_address, triples_in, line_with, line_for, IsSample, Refuses, Stops, page_has_none, not_longer, refusal_laws}
+use Rattle.rx_command.proofs.Common.{◌≡◌, ◌∙◌, ℕ, suc, nat_eq, ◌+◌, ◌≤◌, ◌<◌, ◌⊎◌, inl, inr, ⊎_elim, List, [], ◌++◌, length, refl, sym, ap, subst, arith, None, Result, Ok, Err, IfOk, OnOk, encode_utf8_all, append_assoc, append-nil, length-append, nat_lt, nat_tests, Chars, Html, Limits, Context, Fault, copied, numbered, Triple, Way, standard_limits, setting_for, rdfa_way, most_items, head, item_before, item_behind, items_to, cut_in, sample_page, behind_items, HasDepth, IsCut, in_item, at_end, IsDeepest, sample_setting, sample_address, triples_in, line_with, line_for, IsSample, Refuses, Stops, page_has_none, not_longer, refusal_laws}
 use Rattle.rx_items.proofs.Common.{length-map, cases_lt, FaultAt, triples_seen, read_tag}
 use Rattle.rx_pages.proofs.Common.{split, reads_what_is_underway}
 use Rattle.rx_terms.specs.declared.triples.Triple.{Triple as CodeTriple}
@@ -7,8 +7,8 @@ use Rattle.rx_nquads.specs.Writing.{nquads}
 use Rattle.rx_rdfa.specs.Standard as names
 use Rattle.rx_nest.specs.ShownLines.{shown_line}
 use Rattle.rx_nest.proofs.ShownLines.{stands_underway}
-use Rattle.rx_walk.specs.Walks.{Walked, WalkStands, Ended, DepthGives}
-use Rattle.rx_command.specs.Feeding.{Fed, FedTo, FedWhole, IsDue, TakesPiece, larger, Deepens, IsDeepestTo}
+use Rattle.rx_walk.specs.Walks.{Walked, WalkStands, WalkEnded, DepthGives}
+use Rattle.rx_command.specs.Feeding.{Fed, FedTo, FedWhole, FeedsSample, TakesPiece, larger, Deepens, IsDeepestTo}
 use Rattle.rx_command.specs.declared.samples.Feeding.{Feeding}
 use Rattle.rx_pages.proofs.OneOf.{not_both}
 use Rattle.rx_page.proofs.MadeLemmas.{list_written}
@@ -26,28 +26,28 @@ no_fault : (count : ℕ) (fault : Fault) → count ≤ most_items → Refuses sa
 no_fault count fault few r = let page = samples_are_pages count few in page_has_none sample_way (refusal_laws names.standard) (sample_page count) page.0 (page.1).page (page.1).accepted fault r
 
 -- nor has what is fed of it
-pub no_stop : (s : Feeding) (lent : List ℕ) (fault : Fault) (d : IsDue s) → lent ≡ s.piece.items → Stops sample_way (d.bytes ++ lent) fault → ⊥
+pub no_stop : (s : Feeding) (lent : List ℕ) (fault : Fault) (d : FeedsSample s) → lent ≡ s.piece.items → Stops sample_way (d.bytes ++ lent) fault → ⊥
 no_stop s lent fault d e stops =
     no_fault d.count fault d.few
     (subst (λ p. Refuses sample_way p fault) d.due (subst (λ p. Refuses sample_way ((d.bytes ++ p) ++ d.rest) fault) e (stops.stays d.rest)))
 
-pub no_fault_at_end : (count : ℕ) (fault : Fault) → count ≤ most_items → FaultAt Html standard (sample_page count) fault → ⊥
-no_fault_at_end count fault few f = let page = samples_are_pages count few in not_both Html standard (sample_page count) page.0 fault (page.1).page f
+pub no_fault_at_end : (count : ℕ) (fault : Fault) → count ≤ most_items → FaultAt Html standard_limits (sample_page count) fault → ⊥
+no_fault_at_end count fault few f = let page = samples_are_pages count few in not_both Html standard_limits (sample_page count) page.0 fault (page.1).page f
 
 -- ---- behind a piece
 
 -- so many elements as the walk says
 depth_here : (walk : Walked) (bytes : List ℕ) (depth : ℕ) → WalkStands sample_setting sample_address walk bytes → DepthGives walk depth → HasDepth bytes depth
 depth_here walk bytes depth s d =
-    let u = stands_underway Html standard walk.nest bytes s.goes.signs s.goes.shown in
+    let u = stands_underway Html standard_limits walk.nest bytes s.goes.signs s.goes.shown in
     let is = (d sample_setting sample_address bytes s u.line u.phase u.run u.part u.underway).0 in
     record { line = u.line; phase = u.phase; run = u.run; part = u.part; underway = u.underway; is = is ∙ length-map (shown_line Html u.line) read_tag }
 
 -- bytes have one depth
 one_depth : (bytes : List ℕ) (m n : ℕ) → HasDepth bytes m → HasDepth bytes n → m ≡ n
 one_depth bytes m n a b =
-    let x = (reads_what_is_underway Html standard bytes a.line a.phase a.run a.part).0 a.underway in
-    let y = (reads_what_is_underway Html standard bytes b.line b.phase b.run b.part).0 b.underway in
+    let x = (reads_what_is_underway Html standard_limits bytes a.line a.phase a.run a.part).0 a.underway in
+    let y = (reads_what_is_underway Html standard_limits bytes b.line b.phase b.run b.part).0 b.underway in
     let both : Ok x.now ≡ Ok y.now = sym x.read ∙ y.read in
     let same : x.now ≡ y.now = (cc) in
     let lines : a.line ≡ b.line = sym x.is_at.line_is ∙ (ap (λ p. p.now.nest.line) same ∙ y.is_at.line_is) in
@@ -110,7 +110,7 @@ size_fits walk bytes s = not_longer sample_way bytes (shown_read sample_way byte
 -- ---- the line
 
 said_so : (count size : ℕ) (depth : ℕ) (list : List CodeTriple) (line : List ℕ) → size ≡ length (sample_page count) → IsDeepest count depth
-    → Ended sample_setting sample_address (sample_page count) list
+    → WalkEnded sample_setting sample_address (sample_page count) list
     → line ≡ line_with count size (length (numbered nat_eq (copied nat_eq (triples_seen list)))) (length (encode_utf8_all (nquads (numbered nat_eq (copied nat_eq (triples_seen list))) None))) depth
     → IsSample count line
 said_so count size depth list line s d e spelled =
@@ -125,7 +125,7 @@ said_so count size depth list line s d e spelled =
           ∙ ap (λ (ts : List (Triple ℕ)). line_for count depth ts) made);
     }
 
-pub if_sample : {V E : Type 0} (items : V → List ℕ) (count size : ℕ) (depth : ℕ) (list : List CodeTriple) (r : Result V E) → size ≡ length (sample_page count) → IsDeepest count depth → Ended sample_setting sample_address (sample_page count) list
+pub if_sample : {V E : Type 0} (items : V → List ℕ) (count size : ℕ) (depth : ℕ) (list : List CodeTriple) (r : Result V E) → size ≡ length (sample_page count) → IsDeepest count depth → WalkEnded sample_setting sample_address (sample_page count) list
     → IfOk r (λ line. items line ≡ line_with count size (length (numbered nat_eq (copied nat_eq (triples_seen list)))) (length (encode_utf8_all (nquads (numbered nat_eq (copied nat_eq (triples_seen list))) None))) depth)
     → IfOk r (λ line. IsSample count (items line))
 if_sample items count size depth list (Ok line) s d e h = said_so count size depth list (items line) s d e h
@@ -162,7 +162,7 @@ item_fed i depth bytes s f e p d k =
       depth = deeper_to i depth s.depth d (subst (λ x. Deepens x depth s.depth) e k);
     }
 
-pub started : (walk : Walked) (context : Context) (address : Chars) (l : Limits) (bytes : List ℕ) → l ≡ standard → context ≡ names.standard → address ≡ sample_address → WalkStands (record { syntax = Html; limits = l; context = context }) address walk bytes → WalkStands sample_setting sample_address walk bytes
+pub started : (walk : Walked) (context : Context) (address : Chars) (l : Limits) (bytes : List ℕ) → l ≡ standard_limits → context ≡ names.standard → address ≡ sample_address → WalkStands (record { syntax = Html; limits = l; context = context }) address walk bytes → WalkStands sample_setting sample_address walk bytes
 started walk context address l bytes limits context_is address_is s =
     subst (λ a. WalkStands sample_setting a walk bytes) address_is
     (subst (λ (k : Context). WalkStands (setting_for Html k) address walk bytes) context_is (subst (λ (x : Limits). WalkStands (record { syntax = Html; limits = x; context = context }) address walk bytes) limits s))
@@ -176,17 +176,17 @@ pub if_whole : {E : Type 0} (count : ℕ) (bytes : List ℕ) (old new : Feeding)
 if_whole count bytes old new (Ok done) e d t = whole_fed count bytes old new e d t
 if_whole count bytes old new (Err error) e d t = tt
 
-pub tail_due : (count : ℕ) (bytes piece lent : List ℕ) → bytes ++ piece ≡ items_to count → lent ≡ piece ++ tail → bytes ++ lent ≡ sample_page count
-tail_due count bytes piece lent due l = ap (λ p. bytes ++ p) l ∙ (sym (append_assoc bytes piece tail) ∙ ap (λ p. p ++ tail) due)
+pub tail_due : (count : ℕ) (bytes piece lent : List ℕ) → bytes ++ piece ≡ items_to count → lent ≡ piece ++ behind_items → bytes ++ lent ≡ sample_page count
+tail_due count bytes piece lent due l = ap (λ p. bytes ++ p) l ∙ (sym (append_assoc bytes piece behind_items) ∙ ap (λ p. p ++ behind_items) due)
 
 -- what is fed up to a cut begins the page that ends with this item
-cut_due : (i : ℕ) → cut_in i ++ (item_behind ++ tail) ≡ sample_page (suc i)
-cut_due i = sym (append_assoc (cut_in i) item_behind tail) ∙ ap (λ p. p ++ tail) (append_assoc (items_to i) (item_before i) item_behind)
+cut_due : (i : ℕ) → cut_in i ++ (item_behind ++ behind_items) ≡ sample_page (suc i)
+cut_due i = sym (append_assoc (cut_in i) item_behind behind_items) ∙ ap (λ p. p ++ behind_items) (append_assoc (items_to i) (item_before i) item_behind)
 
-pub item_due : (i : ℕ) (bytes : List ℕ) (s : Feeding) → i < most_items → Fed bytes s → bytes ++ s.piece.items ≡ cut_in i → IsDue s
-item_due i bytes s few f e = record { bytes = bytes; fed = f; count = suc i; few = omega (arith, few); rest = item_behind ++ tail; due = ap (λ p. p ++ (item_behind ++ tail)) e ∙ cut_due i }
+pub item_due : (i : ℕ) (bytes : List ℕ) (s : Feeding) → i < most_items → Fed bytes s → bytes ++ s.piece.items ≡ cut_in i → FeedsSample s
+item_due i bytes s few f e = record { bytes = bytes; fed = f; count = suc i; few = omega (arith, few); rest = item_behind ++ behind_items; due = ap (λ p. p ++ (item_behind ++ behind_items)) e ∙ cut_due i }
 
-pub whole_due : (count : ℕ) (bytes : List ℕ) (s : Feeding) → count ≤ most_items → Fed bytes s → bytes ++ s.piece.items ≡ sample_page count → IsDue s
+pub whole_due : (count : ℕ) (bytes : List ℕ) (s : Feeding) → count ≤ most_items → Fed bytes s → bytes ++ s.piece.items ≡ sample_page count → FeedsSample s
 whole_due count bytes s few f e = record { bytes = bytes; fed = f; count = count; few = few; rest = []; due = append-nil (bytes ++ s.piece.items) ∙ e }
 
 -- what is behind the cut stands in the empty piece

@@ -1,6 +1,6 @@
 -- The tokens of the sample page of every number: their characters are the page's, and each is spelled as it is written.
-use Rattle.rx_grammar.proofs.Common.{list_all, and_parts, and_from, nat_tests, Chars, codes, is_ascii_digit, decimal, digits_decimal, length-decimal-le, Html, Attribute, Tag, character, doctype, a_character, a_doctype, has_markup, start_of, outside, in_html}
-use Rattle.rx_command.proofs.Common.{◌≡◌, ◌∙◌, ℕ, zero, suc, ◌+◌, ◌*◌, ◌≤◌, true, false, List, [], ◌∷◌, ◌++◌, length, refl, sym, ap, arith, append_assoc, length-append, standard, most_items, head, item_before, item_behind, items_to, tail, sample_page, subst, Tree, end, element, Document, Page, nothing, no_more, passed, SamplesArePages, a_doctype as a_leading_doctype}
+use Rattle.rx_grammar.proofs.Common.{list_all, and_parts, and_from, nat_tests, Chars, codes, is_ascii_digit, decimal, digits_decimal, length-decimal-le, Html, Attribute, Tag, character, doctype, a_character, a_doctype, has_markup, start_tag_of, outside, in_html}
+use Rattle.rx_command.proofs.Common.{◌≡◌, ◌∙◌, ℕ, zero, suc, ◌+◌, ◌*◌, ◌≤◌, true, false, List, [], ◌∷◌, ◌++◌, length, refl, sym, ap, arith, append_assoc, length-append, standard_limits, most_items, head, item_before, item_behind, items_to, behind_items, sample_page, subst, Tree, end, element, Document, Page, nothing, no_more, passed, SamplesArePages, a_doctype as a_leading_doctype}
 use Rattle.rx_terms.specs.Ascii.{line_feed, less_than_sign}
 use Rattle.std.proofs.lemmas.Str.Parse.{numerals_by_value}
 use Rattle.rx_reader.proofs.TagLaws.{spells_each}
@@ -110,7 +110,7 @@ page_chars count = items_chars count body_closed
 -- ---- how they are spelled
 
 abbrev limit : ℕ
-limit = standard.tag
+limit = standard_limits.tag
 
 doctype_spelled : IsWritten limit doctype_token
 doctype_spelled = record {
@@ -182,10 +182,10 @@ items_size (suc n) l =
     let all : length (items_to n ++ (item_before n ++ item_behind)) ≡ length (items_to n) + length (item_before n ++ item_behind) = length-append (items_to n) (item_before n ++ item_behind) in
     omega (arith, before, number, start, whole, all)
 
-pub page_size : (count : ℕ) → count ≤ most_items → length (sample_page count) ≤ standard.page
+pub page_size : (count : ℕ) → count ≤ most_items → length (sample_page count) ≤ standard_limits.page
 page_size count l =
     let items = items_size count l in
-    let all : length (sample_page count) ≡ length (items_to count) + 16 = length-append (items_to count) tail in
+    let all : length (sample_page count) ≡ length (items_to count) + 16 = length-append (items_to count) behind_items in
     omega (arith, items, all, l)
 
 -- ---- the tokens of the sample page of every number nest as a page, of which no start tag is refused
@@ -231,7 +231,7 @@ root_inside = 16 + 1 + length html_run
 
 -- the tree of the root's inside
 abbrev tree_of : Tree → Tree
-tree_of inside = element (start_of (item_of 16 html_token) html_tag) inside end
+tree_of inside = element (start_tag_of (item_of 16 html_token) html_tag) inside end
 
 document : (count : ℕ) (h : Held 511 (codes "html") root_inside (in_root count) html_closed) → Document Html 512 (items_at 0 (page_tokens count)) (tree_of h.tree)
 document count h = record {
@@ -254,11 +254,11 @@ document count h = record {
 pub samples_are_pages : SamplesArePages
 samples_are_pages count l =
     let h = root_held count root_inside in
-    let page : Page Html standard (chars_in (page_tokens count)) (tree_of h.tree) =
-    page_written standard (page_tokens count) (tree_of h.tree) (page_spelled count l) (subst (λ cs. length cs ≤ standard.page) (sym (page_chars count)) (page_size count l)) (document count h) in (
+    let page : Page Html standard_limits (chars_in (page_tokens count)) (tree_of h.tree) =
+    page_written standard_limits (page_tokens count) (tree_of h.tree) (page_spelled count l) (subst (λ cs. length cs ≤ standard_limits.page) (sym (page_chars count)) (page_size count l)) (document count h) in (
       tree_of h.tree,
       record {
-        page = subst (λ cs. Page Html standard cs (tree_of h.tree)) (page_chars count) page;
-        accepted = taken_all (tree_of h.tree) (element_taken (start_of (item_of 16 html_token) html_tag) h.tree end html_encloses.taken h.taken (λ context line more. refl)) names.standard;
+        page = subst (λ cs. Page Html standard_limits cs (tree_of h.tree)) (page_chars count) page;
+        accepted = taken_all (tree_of h.tree) (element_taken (start_tag_of (item_of 16 html_token) html_tag) h.tree end html_encloses.taken h.taken (λ context line more. refl)) names.standard;
       },
     )

@@ -1,7 +1,7 @@
 -- How a job of several pages ends, and what that says of a run.
-use Rattle.rx_command.proofs.Common.{◌≡◌, ◌≢◌, ◌∙◌, ℕ, ◌⊎◌, inl, inr, List, [], ◌∷◌, sym, ap, subst, refl, Option, Some, None, is_some, true, false, encode_utf8_all, chars, Rose, ShelfContent, WhereKnown, GrowsBy, GrowsByPart, Stays, moves_at, moves_weaker, Fault, Context, Syntax, Gathering, Job, Listed, gathers, samples, page_in, HasContext, HasOther, LacksContext, TakesContext, context_in, LacksPage, LacksOne, JobLacks, FileList, GivesTriples, JudgesEach, IsGathered, DenotesGathered, HasPages, TakesGathering, GathersPages, TellsThat, WhereTold, Devices, EndsAs, SaysAs, GatheringEnds, TakesJob, StopsCleanly, StartsEach, ReadsAll, Says, SaysNothing, reads_files, context_line}
-use Rattle.rx_many.specs.Pages.{Page}
-use Rattle.rx_many.specs.Writing.{gathered}
+use Rattle.rx_command.proofs.Common.{◌≡◌, ◌≢◌, ◌∙◌, ℕ, ◌⊎◌, inl, inr, List, [], ◌∷◌, sym, ap, subst, refl, Option, Some, None, is_some, true, false, encode_utf8_all, chars, Rose, ShelfContent, WhereKnown, GrowsBy, GrowsByPart, Stays, moves_at, moves_weaker, Fault, Context, Syntax, Gathering, Job, Listed, gathers, samples, page_in, HasContext, HasWrongContext, LacksContext, TakesContext, context_in, LacksPage, LacksOne, JobLacks, FileList, GivesTriples, JudgesEach, IsGathered, DenotesGathered, HasPages, TakesGathering, GathersPages, TellsThat, WhereTold, Devices, EndsAs, SaysAs, GatheringEnds, TakesJob, StopsCleanly, StartsEach, ReadsAll, Says, SaysNothing, reads_files, context_line}
+use Rattle.rx_many.specs.Pages.{JudgedPage}
+use Rattle.rx_many.specs.Writing.{pages_document}
 use Rattle.rx_many.specs.Dataset.{DenotesPages}
 use Rattle.rx_command.specs.declared.statuses.Status.{Status}
 use Rattle.rx_command.specs.declared.statuses.Status.TheVariants as status
@@ -15,14 +15,14 @@ where_moved : {step : ShelfContent → ShelfContent → Type 0} (holds : ShelfCo
 where_moved holds None now f m = tt
 where_moved holds (Some t) now f m = let r = moves_at t m refl in f t r.0 r.1
 
-is_gathered : (g : Gathering) (pages : List Page) (text : List ℕ) → text ≡ encode_utf8_all (gathered pages) → (x y : ShelfContent) → GathersPages g pages x y → IsGathered g text x
+is_gathered : (g : Gathering) (pages : List JudgedPage) (text : List ℕ) → text ≡ encode_utf8_all (pages_document pages) → (x y : ShelfContent) → GathersPages g pages x y → IsGathered g text x
 is_gathered g pages text e x y p = record { context = p.context; holds = p.holds; pages = pages; judged = p.judged; spelled = e }
 
-denotes_gathered : (g : Gathering) (pages : List Page) (text : List ℕ) → DenotesPages (chars text) pages → (x y : ShelfContent) → GathersPages g pages x y → DenotesGathered g text x
+denotes_gathered : (g : Gathering) (pages : List JudgedPage) (text : List ℕ) → DenotesPages (chars text) pages → (x y : ShelfContent) → GathersPages g pages x y → DenotesGathered g text x
 denotes_gathered g pages text d x y p = record { context = p.context; holds = p.holds; pages = pages; judged = judged_graphs g.syntax p.context x.files g.pages pages p.judged; denotes = d }
 
 module _ (g : Gathering) (old new : Devices) where
-  pub ends_done : (pages : List Page) (text piece : List ℕ) → piece ≡ text → text ≡ encode_utf8_all (gathered pages) → DenotesPages (chars text) pages → WhereKnown (GathersPages g pages) old.told new.told → WhereKnown (TakesGathering g) old.told new.told
+  pub ends_done : (pages : List JudgedPage) (text piece : List ℕ) → piece ≡ text → text ≡ encode_utf8_all (pages_document pages) → DenotesPages (chars text) pages → WhereKnown (GathersPages g pages) old.told new.told → WhereKnown (TakesGathering g) old.told new.told
       → WhereKnown (GrowsBy piece) old.held new.held → SaysNothing old.said new.said old.say_faults new.say_faults → GatheringEnds g status.Done old new
   ends_done pages text piece same e d m t w s = record {
     ends = (
@@ -36,7 +36,7 @@ module _ (g : Gathering) (old new : Devices) where
     says = s;
   }
 
-  pub ends_partly : (pages : List Page) (text piece : List ℕ) → piece ≡ text → text ≡ encode_utf8_all (gathered pages) → WhereKnown (GathersPages g pages) old.told new.told → WhereKnown (TakesGathering g) old.told new.told
+  pub ends_partly : (pages : List JudgedPage) (text piece : List ℕ) → piece ≡ text → text ≡ encode_utf8_all (pages_document pages) → WhereKnown (GathersPages g pages) old.told new.told → WhereKnown (TakesGathering g) old.told new.told
       → WhereKnown (GrowsByPart piece) old.held new.held → Rose old.write_faults new.write_faults → SaysNothing old.said new.said old.say_faults new.say_faults → GatheringEnds g status.WriteFault old new
   ends_partly pages text piece same e m t w rose s = record {
     ends = (text, where_moved (IsGathered g text) old.told new.told (λ x y p. is_gathered g pages text e x y p) m, subst (λ z. WhereKnown (GrowsByPart z) old.held new.held) same w, rose);
@@ -46,11 +46,11 @@ module _ (g : Gathering) (old new : Devices) where
 
 -- ---- files that are there and missing
 
-pub other_context : (file : Option (List ℕ)) (shelf : ShelfContent) → LacksContext file shelf → HasOther file shelf → ⊥
+pub other_context : (file : Option (List ℕ)) (shelf : ShelfContent) → LacksContext file shelf → HasWrongContext file shelf → ⊥
 other_context None shelf l o = o
 other_context (Some name) shelf l o = there _ o.bytes o.file l
 
-has_pages : (syntax : Syntax) (context : Context) (files : FileList) (listed : List Listed) (pages : List Page) → JudgesEach GivesTriples syntax context files listed pages → HasPages files listed
+has_pages : (syntax : Syntax) (context : Context) (files : FileList) (listed : List Listed) (pages : List JudgedPage) → JudgesEach GivesTriples syntax context files listed pages → HasPages files listed
 has_pages syntax context files [] [] j = tt
 has_pages syntax context files (one ∷ listed) (page ∷ pages) j = (ap is_some (j.0).file, has_pages syntax context files listed pages j.1)
 has_pages syntax context files _ _ j = absurd j
@@ -71,7 +71,7 @@ module _ (g : Gathering) (t : ShelfContent) where
   pub gathered_lacks : (text : List ℕ) → IsGathered g text t → LacksOne g t → ⊥
   gathered_lacks text i l = not_lacks (has_context g.context t i.context i.holds) (has_pages g.syntax i.context t.files g.pages i.pages i.judged) l
 
-  pub gathered_other : (text : List ℕ) → IsGathered g text t → HasOther g.context t → ⊥
+  pub gathered_other : (text : List ℕ) → IsGathered g text t → HasWrongContext g.context t → ⊥
   gathered_other text i o = not_other g.context t (has_context g.context t i.context i.holds) o
 
 -- ---- what that says of each status

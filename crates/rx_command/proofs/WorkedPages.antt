@@ -1,5 +1,5 @@
 -- Pages and faults of the worked rows, read byte by byte.
-use Rattle.rx_command.proofs.Common.{◌≡◌, ◌∙◌, ⊎_elim, inl, inr, ℕ, true, false, List, [], ◌∷◌, ◌++◌, refl, sym, ap, subst, None, Result, Ok, Err, codes, encode_utf8_all, append_assoc, append-nil, chars, all_scalars, Chars, Html, Page, Tree, end, Fault, Progress, page_read, page_on, nothing_read, spot_of, finds_only_faults, reads_only_pages, MeaningAt, for_form, for_meaning, Way, IsRefusal, Iri, Literal, Plain, Triple, set_of, spo, Renamed, written, graph_of, refusal_laws, Extraction, standard, rdfa_way, HasFirst, IsAccepted, HasText, Denotes, base_in, facts_in, fronts, none_read, small_page, small_text, ◌≤◌, length, arith, sample_page, cut_in, IsCut, in_item, at_end, HasDepth, IsDeepest, IsSample, of_sample, Row, one_line}
+use Rattle.rx_command.proofs.Common.{◌≡◌, ◌∙◌, ⊎_elim, inl, inr, ℕ, true, false, List, [], ◌∷◌, ◌++◌, refl, sym, ap, subst, None, Result, Ok, Err, codes, encode_utf8_all, append_assoc, append-nil, chars, all_scalars, Chars, Html, Page, Tree, end, Fault, Progress, page_read, page_on, no_progress, spot_of, finds_only_faults, reads_only_pages, MeaningAt, for_form, for_meaning, Way, IsRefusal, Iri, Literal, Plain, Triple, set_of, spo, Renamed, written, graph_of, refusal_laws, Extraction, standard_limits, rdfa_way, HasFirst, IsAccepted, HasText, DenotesGraph, base_in, facts_in, fronts, none_read, small_page, small_text, ◌≤◌, length, arith, sample_page, cut_in, IsCut, in_item, at_end, HasDepth, IsDeepest, IsSample, of_sample, Row, one_line}
 use Rattle.rx_turtle.proofs.Common.{append_cancel_left, has_scheme, has_forbidden, ascii-chars, Among, quads, WritableTriple, WritableIri}
 use Rattle.rx_pages.proofs.Common.{FaultAt, told_trees, fault_stays, page_append, reads_what_is_underway}
 use Rattle.rx_items.proofs.Common.{written_denotes, sees, nothing_seen}
@@ -30,21 +30,21 @@ use Rattle.rx_command.specs.declared.statuses.Status.TheVariants as status
 -- where the reader stands
 abbrev pub read_to : Result Progress Fault → Progress
 read_to (Ok now) = now
-read_to (Err fault) = nothing_read
+read_to (Err fault) = no_progress
 
 abbrev pub first_tree : List Tree → Tree
 first_tree [] = end
 first_tree (tree ∷ trees) = tree
 
 abbrev pub small_tree : Tree
-small_tree = first_tree (told_trees (read_to (page_read Html standard small_page)).told)
+small_tree = first_tree (told_trees (read_to (page_read Html standard_limits small_page)).told)
 
 pub small_is : IsAccepted Html names.standard small_page small_tree
 unfolding time_kind components_of step without_dots target resolved resources below start_of element_end entries_at cells
 small_is =
-    let r = reads_only_pages Html standard small_page (read_to (page_read Html standard small_page)) refl in
+    let r = reads_only_pages Html standard_limits small_page (read_to (page_read Html standard_limits small_page)) refl in
     let same : small_tree ≡ r.tree = ap first_tree r.trees in
-    record { page = subst (λ t. Page Html standard small_page t) (sym same) r.page; accepted = refl }
+    record { page = subst (λ t. Page Html standard_limits small_page t) (sym same) r.page; accepted = refl }
 
 abbrev small_list : List (Triple ℕ)
 small_list = spo (Iri (codes "http://localhost/")) (codes "http://v.example/name") (Literal (codes "Ann") Plain) ∷ []
@@ -84,7 +84,7 @@ small_has = record { tree = small_tree; is = small_is; spelled = small_spelled �
 small_chars : chars small_text ≡ nquads small_list None
 small_chars = ascii-chars small_text refl
 
-pub small_denotes : Denotes extraction names.standard small_page small_text
+pub small_denotes : DenotesGraph extraction names.standard small_page small_text
 small_denotes = record {
   tree = small_tree;
   is = small_is;
@@ -104,7 +104,7 @@ module _ (way : Way) (law : IsRefusal way.refused) (clean : List ℕ) (p : Progr
   none_on more q e =
       let on : page_read way.syntax way.limits (clean ++ byte ∷ more) ≡ Err fault =
       ap (λ x. page_read way.syntax way.limits x) (sym (append_assoc clean (byte ∷ []) more))
-      ∙ (page_append way.syntax way.limits (spot_of way.syntax p.now.nest) (Ok nothing_read) (clean ++ byte ∷ []) more
+      ∙ (page_append way.syntax way.limits (spot_of way.syntax p.now.nest) (Ok no_progress) (clean ++ byte ∷ []) more
       ∙ (ap (λ x. page_on way.syntax way.limits x more) k ∙ fault_stays way.syntax way.limits fault more)) in
       let both : Err fault ≡ Ok q = sym on ∙ e in
       absurd (cc)
@@ -136,8 +136,8 @@ mismatched = record { kind = Mismatch; token = 9; at = 12 }
 
 pub mismatch_first : HasFirst check_way (codes "<html><b></i></b></html>") mismatched
 mismatch_first =
-    form_first check_way (refusal_laws names.standard) (codes "<html><b></i") (read_to (page_read Html standard (codes "<html><b></i"))) refl refl 62 mismatched refl (codes "</b></html>")
-    (finds_only_faults Html standard (codes "<html><b></i></b></html>") mismatched refl)
+    form_first check_way (refusal_laws names.standard) (codes "<html><b></i") (read_to (page_read Html standard_limits (codes "<html><b></i"))) refl refl 62 mismatched refl (codes "</b></html>")
+    (finds_only_faults Html standard_limits (codes "<html><b></i></b></html>") mismatched refl)
 
 -- ---- a start tag that is refused for what it means
 
@@ -150,7 +150,7 @@ relative_read = record {
   front = codes "<html vocab=\"x\">";
   rest = codes "</html>";
   are = refl;
-  now = read_to (page_read Html standard (codes "<html vocab=\"x\">"));
+  now = read_to (page_read Html standard_limits (codes "<html vocab=\"x\">"));
   read = refl;
   refused = refl;
 }
@@ -172,37 +172,37 @@ one_cut = codes "<!DOCTYPE html>\n<html vocab=\"http://schema.org/\">\n<body typ
 -- ---- the page and its triples
 
 abbrev one_tree : Tree
-one_tree = first_tree (told_trees (read_to (page_read Html standard one_page)).told)
+one_tree = first_tree (told_trees (read_to (page_read Html standard_limits one_page)).told)
 
 one_accepted : IsAccepted Html names.standard (sample_page 1) one_tree
 unfolding digits time_kind components_of step without_dots target resolved resources below start_of element_end entries_at cells
 one_accepted =
-    let r = reads_only_pages Html standard one_page (read_to (page_read Html standard one_page)) refl in
+    let r = reads_only_pages Html standard_limits one_page (read_to (page_read Html standard_limits one_page)) refl in
     let same : one_tree ≡ r.tree = ap first_tree r.trees in
-    record { page = subst (λ t. Page Html standard one_page t) (sym same) r.page; accepted = refl }
+    record { page = subst (λ t. Page Html standard_limits one_page t) (sym same) r.page; accepted = refl }
 
 -- ---- its depth
 
 -- the open elements where the reader stands
-open_there : (bytes : List ℕ) (now : Progress) (depth : ℕ) → page_read Html standard bytes ≡ Ok now → depth ≡ length (shown_line Html now.now.nest.line) → HasDepth bytes depth
+open_there : (bytes : List ℕ) (now : Progress) (depth : ℕ) → page_read Html standard_limits bytes ≡ Ok now → depth ≡ length (shown_line Html now.now.nest.line) → HasDepth bytes depth
 open_there bytes now depth h e = record {
   line = now.now.nest.line;
   phase = now.now.nest.phase;
   run = now.now.scan.run;
   part = now.now.scan.held;
   underway =
-      (reads_what_is_underway Html standard bytes now.now.nest.line now.now.nest.phase now.now.scan.run now.now.scan.held).1
+      (reads_what_is_underway Html standard_limits bytes now.now.nest.line now.now.nest.phase now.now.scan.run now.now.scan.held).1
       (record { now = now; read = h; is_at = record { line_is = refl; phase_is = refl }; run_is = refl; part_is = refl });
   is = e;
 }
 
 cut_deep : HasDepth (cut_in 0) 4
 unfolding digits
-cut_deep = open_there one_cut (read_to (page_read Html standard one_cut)) 4 refl refl
+cut_deep = open_there one_cut (read_to (page_read Html standard_limits one_cut)) 4 refl refl
 
 end_deep : HasDepth (sample_page 1) 0
 unfolding digits
-end_deep = open_there one_page (read_to (page_read Html standard one_page)) 0 refl refl
+end_deep = open_there one_page (read_to (page_read Html standard_limits one_page)) 0 refl refl
 
 no_deeper : (others : List ℕ) → IsCut 1 others → (other : ℕ) × HasDepth others other × (other ≤ 4)
 no_deeper others (in_item i l) = let first : 0 ≡ i = omega (arith, l) in (4, subst (λ n. HasDepth (cut_in n) 4) first cut_deep, omega arith)

@@ -1,11 +1,11 @@
 -- The nodes of tokens that are written one after another, of which no start tag is refused.
-use Rattle.rx_pages.proofs.Common.{◌≡◌, ◌∙◌, ℕ, suc, ◌+◌, false, List, [], ◌∷◌, ◌++◌, map, length, refl, sym, ap, subst, Option, None, append_assoc, append-nil, option_or, Chars, option_map, Html, Place, in_html, place_in, is_alone, is_self_closed, is_plaintext, hides, drops_line_feed, Tag, tag, Tree, StartTag, end, element, text, after_text, has_element, Item, start_of, enders, Content, Fault}
+use Rattle.rx_pages.proofs.Common.{◌≡◌, ◌∙◌, ℕ, suc, ◌+◌, false, List, [], ◌∷◌, ◌++◌, map, length, refl, sym, ap, subst, Option, None, append_assoc, append-nil, option_or, Chars, option_map, Html, Place, in_html, place_inside, is_alone, is_self_closed, is_plaintext, hides, drops_line_feed, Tag, tag, Tree, StartTag, end, element, text, after_text, has_element, Item, start_tag_of, enders, Content, Fault}
 use Rattle.rx_eval.proofs.Common.{facts, Context, Refusal, refusal, read_tag}
 use Rattle.rx_grammar.specs.Pages.{Drops, Holds, nothing, a_text, closed, shown, another, no_more}
 use Rattle.rx_grammar.specs.declared.contents.Content.TheVariants as content
-use Rattle.rx_rdfa.specs.Tree.{Tag as RulesTag}
+use Rattle.rx_rdfa.specs.Tree.{ElementTag as RulesTag}
 use Rattle.rx_nest.specs.Signs.{Sign, said, finished, signs_of}
-use Rattle.rx_walk.specs.Refused.{fault_of, refused_in}
+use Rattle.rx_walk.specs.Refused.{refusal_fault, refused_in}
 use Rattle.rx_command.proofs.WrittenTokens.{Written, item_of, items_at, letters, start_token, end_tag, end_run, end_token}
 
 -- ---- start tags that aren't refused
@@ -34,7 +34,7 @@ after_text_taken (c ∷ chars) (text others rest) h =
 
 pub element_taken : (t : StartTag) (inside rest : Tree) → ((context : Context) (line : List RulesTag) → refusal (facts context line (read_tag t)) ≡ None) → Taken inside → Taken rest → Taken (element t inside rest)
 element_taken t inside rest n h k context line more =
-    ap (λ (o : Option Refusal). option_or (option_map (fault_of t) o) (refused_in context (read_tag t ∷ line) ((signs_of inside ++ (finished ∷ signs_of rest)) ++ more))) (n context line)
+    ap (λ (o : Option Refusal). option_or (option_map (refusal_fault t) o) (refused_in context (read_tag t ∷ line) ((signs_of inside ++ (finished ∷ signs_of rest)) ++ more))) (n context line)
     ∙ (ap (λ s. refused_in context (read_tag t ∷ line) s) (append_assoc (signs_of inside) (finished ∷ signs_of rest) more)
     ∙ (h context (read_tag t ∷ line) (finished ∷ (signs_of rest ++ more)) ∙ k context line more))
 
@@ -56,7 +56,7 @@ pub record Encloses (place : Place) (t : Tag) : Type 0 where
   pub known : is_plaintext Html place t ≡ false
   pub several : is_alone Html place t ≡ false
   pub undropped : drops_line_feed place t ≡ false
-  pub inside : place_in Html place t.name ≡ in_html
+  pub inside : place_inside Html place t.name ≡ in_html
   pub seen : hides place t ≡ false
   pub closed : enders place t.name ≡ []
   pub taken : (context : Context) (line : List RulesTag) → refusal (facts context line (record { name = t.name; attributes = t.attributes })) ≡ None
@@ -64,11 +64,11 @@ pub record Encloses (place : Place) (t : Tag) : Type 0 where
 pub enclosed : (left : ℕ) (place : Place) (parent : Chars) (item close : Item) (t : Tag) (inner after to : List Item) (inside nodes : Tree) → Encloses place t
     → item.content ≡ place.content → item.token ≡ tag t → close.content ≡ content.Html → close.token ≡ tag (end_tag t.name)
     → Holds Html left in_html t.name inner (close ∷ after) inside → Holds Html (suc left) place parent after to nodes
-    → Holds Html (suc left) place parent (item ∷ inner) to (element (start_of item t) inside nodes)
+    → Holds Html (suc left) place parent (item ∷ inner) to (element (start_tag_of item t) inside nodes)
 enclosed left place parent item close t inner after to inside nodes e c k d m h rest =
-    subst (λ b. Holds Html (suc left) place parent (item ∷ inner) to (element (start_of item t) (shown b inside) nodes)) e.seen
+    subst (λ b. Holds Html (suc left) place parent (item ∷ inner) to (element (start_tag_of item t) (shown b inside) nodes)) e.seen
     (closed item close t (record { content = c; token = k; start = e.start; allowed = e.allowed; known = e.known }) e.several
-    (subst (λ b. Drops b (place_in Html place t.name).content inner inner) (sym e.undropped) (undropped (place_in Html place t.name).content inner))
+    (subst (λ b. Drops b (place_inside Html place t.name).content inner inner) (sym e.undropped) (undropped (place_inside Html place t.name).content inner))
     (subst (λ (p : Place). Holds Html left p t.name inner (close ∷ after) inside) (sym e.inside) h)
     (ap (λ names. has_element names inside) e.closed ∙ no_names inside)
     (record { t = end_tag t.name; content = d ∙ ap (λ (p : Place). p.content) (sym e.inside); token = m; end = refl; same = refl })
@@ -102,7 +102,7 @@ held_element left parent t run inner after rest e h k at =
     let r = k (i.to + 1 + length (end_run t.name)) in
     record {
       to = r.to;
-      tree = element (start_of (item_of at (start_token t run)) t) i.tree r.tree;
+      tree = element (start_tag_of (item_of at (start_token t run)) t) i.tree r.tree;
       holds = enclosed left in_html parent _ _ t _ _ _ i.tree r.tree e refl refl refl refl i.holds r.holds;
-      taken = element_taken (start_of (item_of at (start_token t run)) t) i.tree r.tree e.taken i.taken r.taken;
+      taken = element_taken (start_tag_of (item_of at (start_token t run)) t) i.tree r.tree e.taken i.taken r.taken;
     }

@@ -1,5 +1,5 @@
 -- Tokens of HTML that are written one after another, with characters of one byte each.
-use Rattle.rx_reader.proofs.Common.{◌≡◌, ◌∙◌, ℕ, ◌+◌, ◌-◌, ◌≤◌, Bool, true, false, List, [], ◌∷◌, ◌++◌, length, refl, sym, ap, subst, arith, Option, None, ◌&&◌, ◌==◌, not, len_utf8, list_all, and_parts, and_from, ltb-true, nat_tests, list_all-append, is_ascii, less_than_sign, greater_than_sign, right_bracket, solidus, Chars, ascii-same, len_utf8_ascii, Entry, IsRead, placed, without_mark, entered, as_line_end, carriage_return, byte_order_mark, Html, Tag, Token, tag, character, SpellsTag, Spells, a_tag, a_character, has_markup, is_text, Tree, Item, Spelled, no_more, one, values, next_of, last_from, Fits, AllFit, is_strict_literal, no_section_end, Document, Page, has_no_nul, Content, Limits}
+use Rattle.rx_reader.proofs.Common.{◌≡◌, ◌∙◌, ℕ, ◌+◌, ◌-◌, ◌≤◌, Bool, true, false, List, [], ◌∷◌, ◌++◌, length, refl, sym, ap, subst, arith, Option, None, ◌&&◌, ◌==◌, not, len_utf8, list_all, and_parts, and_from, ltb-true, nat_tests, list_all-append, is_ascii, less_than_sign, greater_than_sign, right_bracket, solidus, Chars, ascii-same, len_utf8_ascii, PlacedCharacter, IsRead, placed, without_mark, preprocessed, as_line_end, carriage_return, byte_order_mark, Html, Tag, Token, tag, character, SpellsTag, Spells, a_tag, a_character, has_markup, is_text, Tree, Item, Spelled, no_more, one, values, next_of, last_from, Fits, AllFit, is_strict_literal, no_section_end, Document, Page, has_no_nul, Content, Limits}
 use Rattle.rx_grammar.specs.declared.contents.Content.TheVariants as content
 
 -- a token, the content that it stands in, its first character and the others
@@ -66,7 +66,7 @@ AreWritten limit (w ∷ ws) = IsWritten limit w × AreWritten limit ws
 
 -- ---- characters of one byte each
 
-abbrev bytes_at : ℕ → Chars → List Entry
+abbrev bytes_at : ℕ → Chars → List PlacedCharacter
 bytes_at at [] = []
 bytes_at at (c ∷ chars) = record { value = c; first = at; last = at } ∷ bytes_at (at + 1) chars
 
@@ -83,17 +83,17 @@ plain_ascii : (chars : Chars) → list_all is_plain chars ≡ true → list_all 
 plain_ascii [] e = refl
 plain_ascii (c ∷ chars) e = let p = and_parts _ _ e in and_from _ _ (plain_is c p.0).ascii (plain_ascii chars p.1)
 
-entry_is : (c v at last : ℕ) → v ≡ c → last ≡ at → (some others : List Entry) → some ≡ others → ◌≡◌ {A = List Entry} (record { value = v; first = at; last = last } ∷ some) (record { value = c; first = at; last = at } ∷ others)
+entry_is : (c v at last : ℕ) → v ≡ c → last ≡ at → (some others : List PlacedCharacter) → some ≡ others → ◌≡◌ {A = List PlacedCharacter} (record { value = v; first = at; last = last } ∷ some) (record { value = c; first = at; last = at } ∷ others)
 entry_is c v at last e l some others r = λ i. record { value = e i; first = at; last = l i } ∷ r i
 
-entered_plain : (at : ℕ) (chars : Chars) → list_all is_plain chars ≡ true → entered false (placed at chars) ≡ bytes_at at chars
+entered_plain : (at : ℕ) (chars : Chars) → list_all is_plain chars ≡ true → preprocessed false (placed at chars) ≡ bytes_at at chars
 entered_plain at [] e = refl
 entered_plain at (c ∷ chars) e =
     let p = and_parts (is_plain c) (list_all is_plain chars) e in
     let q = plain_is c p.0 in
     let size : len_utf8 c ≡ 1 = len_utf8_ascii c (ltb-true c 128 q.ascii) in
-    entry_is c (as_line_end c) at (at + len_utf8 c - 1) (rw q.no_return refl) (omega (arith, size)) (entered (c == carriage_return) (placed (at + len_utf8 c) chars)) (bytes_at (at + 1) chars)
-    (ap (λ b. entered b (placed (at + len_utf8 c) chars)) q.no_return ∙ (ap (λ n. entered false (placed (at + n) chars)) size ∙ entered_plain (at + 1) chars p.1))
+    entry_is c (as_line_end c) at (at + len_utf8 c - 1) (rw q.no_return refl) (omega (arith, size)) (preprocessed (c == carriage_return) (placed (at + len_utf8 c) chars)) (bytes_at (at + 1) chars)
+    (ap (λ b. preprocessed b (placed (at + len_utf8 c) chars)) q.no_return ∙ (ap (λ n. preprocessed false (placed (at + n) chars)) size ∙ entered_plain (at + 1) chars p.1))
 
 unmarked : (chars : Chars) → list_all is_plain chars ≡ true → without_mark (placed 0 chars) ≡ placed 0 chars
 unmarked [] e = refl
@@ -102,7 +102,7 @@ unmarked (c ∷ chars) e = let p = and_parts (is_plain c) (list_all is_plain cha
 read_plain : (chars : Chars) → list_all is_plain chars ≡ true → IsRead chars (bytes_at 0 chars)
 read_plain chars e =
     let same = ascii-same chars (plain_ascii chars e) in
-    record { characters = chars; scalars = same.1; forms = same.0; read = sym (ap (λ es. entered false es) (unmarked chars e) ∙ entered_plain 0 chars e) }
+    record { characters = chars; scalars = same.1; forms = same.0; read = sym (ap (λ es. preprocessed false es) (unmarked chars e) ∙ entered_plain 0 chars e) }
 
 values_are : (at : ℕ) (chars : Chars) → values (bytes_at at chars) ≡ chars
 values_are at [] = refl

@@ -12,9 +12,9 @@ use Rattle.rx_command.specs.Inputs.{PageText, PageRefused, TellsThat}
 use Rattle.rx_page.specs.declared.outcomes.Outcome.{Outcome}
 
 -- where the call gives something, the shelf moved so
-abbrev pub GivesBy :
+abbrev pub MovesShelf :
     {A : Type 0} → Result A InputError → (A → ShelfContent → ShelfContent → Type 0) → Option ShelfContent → Option ShelfContent → Type 0
-GivesBy result step old new = IfOk result (λ given. WhereKnown (step given) old new)
+MovesShelf result step old new = IfOk result (λ given. WhereKnown (step given) old new)
 
 -- where it refuses the page with a fault, the shelf moved so
 abbrev pub RefusesBy :
@@ -23,7 +23,7 @@ RefusesBy result step old new = (fault : Fault) → result ≡ Err (error.Refuse
 
 -- where the call gives an outcome, the page of this name is there, and its text is what the task makes of it
 abbrev pub GivesText : Result Outcome InputError → Task → Context → Chars → Option ShelfContent → Option ShelfContent → Type 0
-GivesText result task context page old new = GivesBy result (PageText task context (encode_utf8_all page)) old new
+GivesText result task context page old new = MovesShelf result (PageText task context (encode_utf8_all page)) old new
 
 -- where it refuses the page, that is there, and has the fault
 abbrev pub RefusesPage : Result Outcome InputError → Task → Context → Chars → Option ShelfContent → Option ShelfContent → Type 0

@@ -30,9 +30,9 @@ HasContext None shelf = Unit {0}
 HasContext (Some name) shelf = IsContextFile name true shelf
 
 -- a context file is named, and it is there and is no context
-abbrev pub HasOther : Option Chars → ShelfContent → Type 0
-HasOther None shelf = ⊥
-HasOther (Some name) shelf = IsContextFile name false shelf
+abbrev pub HasWrongContext : Option Chars → ShelfContent → Type 0
+HasWrongContext None shelf = ⊥
+HasWrongContext (Some name) shelf = IsContextFile name false shelf
 
 -- a context file is named, and it isn't there
 abbrev pub LacksContext : Option Chars → ShelfContent → Type 0
@@ -47,9 +47,9 @@ pub record IsFileOf (name : Chars) (shelf : ShelfContent) (context : Context) : 
   pub reads : context_of bytes ≡ Some context
 
 -- the context that holds: the standard one, or that of the file that is named
-abbrev pub IsContext : Option Chars → ShelfContent → Context → Type 0
-IsContext None shelf context = context ≡ standard
-IsContext (Some name) shelf context = IsFileOf name shelf context
+abbrev pub ContextHolds : Option Chars → ShelfContent → Context → Type 0
+ContextHolds None shelf context = context ≡ standard
+ContextHolds (Some name) shelf context = IsFileOf name shelf context
 
 abbrev pub context_size : Option Chars → ShelfContent → ℕ
 context_size None shelf = 0
@@ -74,6 +74,6 @@ pub record TakesContext (file : Option Chars) (old new : ShelfContent) : Type 0 
 
 -- the context file was started once and read, where one is named, and this is the context that holds
 pub record ReadsContext (file : Option Chars) (context : Context) (old new : ShelfContent) : Type 0 where
-  pub is : IsContext file old context
+  pub is : ContextHolds file old context
   pub takes : TakesContext file old new
   pub starts : new.starts ≡ old.starts + context_count file

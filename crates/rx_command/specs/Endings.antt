@@ -7,19 +7,20 @@ use Rattle.rx_rdfa.specs.Common.{Chars, Context, Fault}
 use Rattle.rx_job.specs.Words.{Job, Asked, Gathering, reads, gathers, samples, job}
 use Rattle.rx_page.specs.Tasks.{TaskGives}
 use Rattle.rx_page.specs.Outcomes.{IsTheFault, IsTheText}
-use Rattle.rx_command.specs.Contexts.{IsContext, HasOther}
+use Rattle.rx_command.specs.Contexts.{ContextHolds, HasWrongContext}
 use Rattle.rx_command.specs.Outcome.{IsLacking, LacksOne, LacksFile, HasBadContext, HasPageFault}
 use Rattle.rx_command.specs.Gathering.{IsGathered, DenotesGathered, HasAll}
 use Rattle.rx_command.specs.Samples.{IsSample, Yields, YieldsBoth}
-use Rattle.rx_command.specs.Runs.{TakesJob, ReadsAll, Devices, EndsSo, IfTold, Writes, WhereRefused, Says, usage_line, context_line, refused_line}
+use Rattle.rx_command.specs.Runs.{TakesJob, ReadsAll, Devices, EndsSo, IfTold, WritesToSink, WhereRefused, Says, usage_line, context_line}
 use Rattle.rx_command.specs.declared.statuses.Status.{Status}
 use Rattle.rx_command.specs.declared.statuses.Status.TheVariants as status
+use Rattle.rx_grammar.specs.Kinds.{refused_line}
 
 -- The page that is asked for is there, a context holds, and this holds of the context and of the page's bytes.
 pub record OfPage (asked : Asked) (shelf : ShelfContent) (holds : Context → List ℕ → Type 0) : Type 0 where
   pub context : Context
   pub bytes : List ℕ
-  pub is_context : IsContext asked.context shelf context
+  pub is_context : ContextHolds asked.context shelf context
   pub file : file_of shelf.files (encode_utf8_all asked.page) ≡ Some bytes
   pub holds_so : holds context bytes
 
@@ -36,13 +37,13 @@ pub data IsAnswer (shelf : ShelfContent) : Option Job → Status → List ℕ �
   -- its context file is missing, or the page is
   no_file : (asked : Asked) → IsLacking asked shelf → IsAnswer shelf (Some (reads asked)) status.ReadFault [] []
   -- its context file is there, and is none
-  no_context : (asked : Asked) → HasOther asked.context shelf → IsAnswer shelf (Some (reads asked)) status.BadContext [] context_line
+  no_context : (asked : Asked) → HasWrongContext asked.context shelf → IsAnswer shelf (Some (reads asked)) status.BadContext [] context_line
   -- several pages have one document, which denotes what the accepted ones give
   of_pages : (gathering : Gathering) (text : List ℕ) → IsGathered gathering text shelf → DenotesGathered gathering text shelf → IsAnswer shelf (Some (gathers gathering)) status.Done text []
   -- their context file is missing, or one of them is
   no_file_of_several : (gathering : Gathering) → LacksOne gathering shelf → IsAnswer shelf (Some (gathers gathering)) status.ReadFault [] []
   -- their context file is there, and is none
-  no_context_of_several : (gathering : Gathering) → HasOther gathering.context shelf → IsAnswer shelf (Some (gathers gathering)) status.BadContext [] context_line
+  no_context_of_several : (gathering : Gathering) → HasWrongContext gathering.context shelf → IsAnswer shelf (Some (gathers gathering)) status.BadContext [] context_line
 
 -- the text that is to be written
 abbrev pub IsDue : ShelfContent → Option Job → List ℕ → Type 0
@@ -80,8 +81,8 @@ OneAnswer =
 -- What follows from how a run ends over a shelf that tells its files.
 pub record EndingFollows (words : List Chars) (s : Status) (old new : Devices) : Type 0 where
   -- a text that was written is the outcome, and denotes what it has to; so is one of which a front was written
-  pub done : s ≡ status.Done → Writes old.told (YieldsBoth words old.told) GrowsBy old.held new.held
-  pub partly : s ≡ status.WriteFault → Writes old.told (Yields words old.told) GrowsByPart old.held new.held
+  pub done : s ≡ status.Done → WritesToSink old.told (YieldsBoth words old.told) GrowsBy old.held new.held
+  pub partly : s ≡ status.WriteFault → WritesToSink old.told (Yields words old.told) GrowsByPart old.held new.held
   -- a page that is refused has the fault, and a context file that is refused is none
   pub refused : WhereRefused s (λ fault. IfTold old.told (HasPageFault words old.told fault))
   pub bad_context : s ≡ status.BadContext → IfTold old.told (HasBadContext words old.told)

@@ -30,7 +30,7 @@ pub record FedTo (count : ℕ) (s : Feeding) : Type 0 where
   pub depth : IsDeepestTo count s.depth
 
 -- what was fed and the piece are the first bytes of a sample page
-pub record IsDue (s : Feeding) : Type 0 where
+pub record FeedsSample (s : Feeding) : Type 0 where
   pub bytes : List ℕ
   pub fed : Fed bytes s
   pub count : ℕ

@@ -3,16 +3,17 @@ use Rattle.std.specs.Prelude.{◌≡◌, ℕ, ◌+◌, ◌≤◌, List, [], ◌�
 use Rattle.rx_rdfa.specs.Common.{chars, Chars, Triple, set_of, Renamed, Context, written, graph_of, Syntax, Fault, Tree}
 use Rattle.rx_ports.specs.Files.{file_of}
 use Rattle.rx_ports.specs.Shelves.{ShelfContent, WhereKnown}
-use Rattle.rx_many.specs.Pages.{Page, Judgement, refused, accepted}
-use Rattle.rx_many.specs.Writing.{gathered}
+use Rattle.rx_many.specs.Pages.{JudgedPage, Judgement, refused, accepted}
+use Rattle.rx_many.specs.Writing.{pages_document}
 use Rattle.rx_many.specs.Dataset.{DenotesPages}
 use Rattle.rx_job.specs.Words.{Gathering, Listed, gathering_asked}
 use Rattle.rx_command.specs.Reading.{largest_piece, page_limit}
 use Rattle.rx_page.specs.Settings.{rdfa_way, HasFirst}
 use Rattle.rx_command.specs.Files.{size_of}
-use Rattle.rx_command.specs.Contexts.{IsContext, HasContext, context_size, context_limit, context_count}
-use Rattle.rx_page.specs.Tasks.{IsAccepted, base_in, facts_in}
+use Rattle.rx_command.specs.Contexts.{ContextHolds, HasContext, context_size, context_limit, context_count}
+use Rattle.rx_page.specs.Tasks.{IsAccepted, facts_in}
 use Rattle.rx_page.specs.Texts.{as_read}
+use Rattle.rx_microdata.specs.Base.{base_in}
 
 -- files by their names
 abbrev pub FileList : Type 0
@@ -41,7 +42,7 @@ IsJudged gives syntax context address bytes (accepted triples) = gives syntax co
 
 -- the listed page is there, and under its address it is judged so
 pub record Judges (gives : Syntax → Context → Chars → List ℕ → List (Triple ℕ) → Type 0)
-    (syntax : Syntax) (context : Context) (files : FileList) (listed : Listed) (page : Page) : Type 0 where
+    (syntax : Syntax) (context : Context) (files : FileList) (listed : Listed) (page : JudgedPage) : Type 0 where
   pub bytes : List ℕ
   pub file : file_of files (encode_utf8_all listed.page) ≡ Some bytes
   pub address : page.address ≡ listed.address
@@ -49,7 +50,7 @@ pub record Judges (gives : Syntax → Context → Chars → List ℕ → List (T
 
 -- each in its place
 abbrev pub JudgesEach : (Syntax → Context → Chars → List ℕ → List (Triple ℕ) → Type 0)
-    → Syntax → Context → FileList → List Listed → List Page → Type 0
+    → Syntax → Context → FileList → List Listed → List JudgedPage → Type 0
 JudgesEach gives syntax context files [] [] = Unit {0}
 JudgesEach gives syntax context files (listed ∷ more) (page ∷ pages) =
     Judges gives syntax context files listed page × JudgesEach gives syntax context files more pages
@@ -58,17 +59,17 @@ JudgesEach gives syntax context files listed pages = ⊥
 -- the text is the document of the listed pages, as they are judged where the job's context holds
 pub record IsGathered (gathering : Gathering) (text : List ℕ) (shelf : ShelfContent) : Type 0 where
   pub context : Context
-  pub holds : IsContext gathering.context shelf context
-  pub pages : List Page
+  pub holds : ContextHolds gathering.context shelf context
+  pub pages : List JudgedPage
   pub judged : JudgesEach GivesTriples gathering.syntax context shelf.files gathering.pages pages
-  pub spelled : text ≡ encode_utf8_all (gathered pages)
+  pub spelled : text ≡ encode_utf8_all (pages_document pages)
 
 -- the text denotes exactly the quads of the accepted pages: of each the graph that RDFa's rules give its tree, under its
 -- address without fragment, all blank nodes being renamed together one to one
 pub record DenotesGathered (gathering : Gathering) (text : List ℕ) (shelf : ShelfContent) : Type 0 where
   pub context : Context
-  pub holds : IsContext gathering.context shelf context
-  pub pages : List Page
+  pub holds : ContextHolds gathering.context shelf context
+  pub pages : List JudgedPage
   pub judged : JudgesEach GivesGraph gathering.syntax context shelf.files gathering.pages pages
   pub denotes : DenotesPages (chars text) pages
 
@@ -106,7 +107,7 @@ pub record HasAll (words : List Chars) (told : Option ShelfContent) : Type 0 whe
 
 -- So much is read of a page at most: no more than it has, and, where it has a fault under a context that holds, no more than
 -- a piece past the byte that decides the fault.
-pub record IsPart (holds : Context → Type 0) (syntax : Syntax) (files : FileList) (listed : Listed) (part : ℕ) : Type 0 where
+pub record IsPartRead (holds : Context → Type 0) (syntax : Syntax) (files : FileList) (listed : Listed) (part : ℕ) : Type 0 where
   pub size : part ≤ size_of (file_of files (encode_utf8_all listed.page))
   pub most : part ≤ page_limit
   pub to_fault : (context : Context) → holds context → (bytes : List ℕ) → file_of files (encode_utf8_all listed.page) ≡ Some bytes
@@ -115,7 +116,7 @@ pub record IsPart (holds : Context → Type 0) (syntax : Syntax) (files : FileLi
 -- one part for each page
 abbrev pub AreParts : (Context → Type 0) → Syntax → FileList → List Listed → List ℕ → Type 0
 AreParts holds syntax files [] [] = Unit {0}
-AreParts holds syntax files (listed ∷ more) (part ∷ parts) = IsPart holds syntax files listed part × AreParts holds syntax files more parts
+AreParts holds syntax files (listed ∷ more) (part ∷ parts) = IsPartRead holds syntax files listed part × AreParts holds syntax files more parts
 AreParts holds syntax files listed parts = ⊥
 
 abbrev pub total : List ℕ → ℕ
@@ -127,7 +128,7 @@ total (part ∷ parts) = part + total parts
 pub record TakesGathering (gathering : Gathering) (old new : ShelfContent) : Type 0 where
   pub files : new.files ≡ old.files
   pub parts : List ℕ
-  pub are : AreParts (IsContext gathering.context old) gathering.syntax old.files gathering.pages parts
+  pub are : AreParts (ContextHolds gathering.context old) gathering.syntax old.files gathering.pages parts
   pub size : new.taken ≤ old.taken + (context_size gathering.context old + total parts)
   pub most : new.taken ≤ old.taken + (context_limit gathering.context + total parts)
   pub starts : new.starts ≤ old.starts + (context_count gathering.context + length gathering.pages)
@@ -141,7 +142,7 @@ IsThat context other = context ≡ other
 pub record TakesPart (context : Context) (syntax : Syntax) (listed : Listed) (old new : ShelfContent) : Type 0 where
   pub files : new.files ≡ old.files
   pub part : ℕ
-  pub is : IsPart (IsThat context) syntax old.files listed part
+  pub is : IsPartRead (IsThat context) syntax old.files listed part
   pub taken : new.taken ≤ old.taken + part
   pub starts : new.starts ≤ old.starts + 1
 
@@ -154,32 +155,32 @@ pub record TakesParts (context : Context) (syntax : Syntax) (listed : List Liste
   pub starts : new.starts ≤ old.starts + length listed
 
 -- the page was started once and read, and is judged so
-pub record ReadsListed (context : Context) (syntax : Syntax) (listed : Listed) (page : Page) (old new : ShelfContent) : Type 0 where
+pub record ReadsListed (context : Context) (syntax : Syntax) (listed : Listed) (page : JudgedPage) (old new : ShelfContent) : Type 0 where
   pub judged : Judges GivesTriples syntax context old.files listed page
   pub takes : TakesPart context syntax listed old new
   pub starts : new.starts ≡ old.starts + 1
 
 -- all of them were
-pub record ReadsEach (context : Context) (syntax : Syntax) (listed : List Listed) (pages : List Page) (old new : ShelfContent) : Type 0 where
+pub record ReadsEach (context : Context) (syntax : Syntax) (listed : List Listed) (pages : List JudgedPage) (old new : ShelfContent) : Type 0 where
   pub judged : JudgesEach GivesTriples syntax context old.files listed pages
   pub takes : TakesParts context syntax listed old new
   pub starts : new.starts ≡ old.starts + length listed
 
 -- this page was read, and added
-pub record AddsPage (context : Context) (syntax : Syntax) (listed : Listed) (before now : List Page) (old new : Option ShelfContent) : Type 0 where
-  pub page : Page
+pub record GathersPage (context : Context) (syntax : Syntax) (listed : Listed) (before now : List JudgedPage) (old new : Option ShelfContent) : Type 0 where
+  pub page : JudgedPage
   pub adds : now ≡ before ++ page ∷ []
   pub reads : WhereKnown (ReadsListed context syntax listed page) old new
 
 -- these pages were read, and added
-pub record AddsPages (context : Context) (syntax : Syntax) (listed : List Listed) (before now : List Page) (old new : Option ShelfContent) : Type 0 where
-  pub pages : List Page
+pub record AddsPages (context : Context) (syntax : Syntax) (listed : List Listed) (before now : List JudgedPage) (old new : Option ShelfContent) : Type 0 where
+  pub pages : List JudgedPage
   pub adds : now ≡ before ++ pages
   pub reads : WhereKnown (ReadsEach context syntax listed pages) old new
 
 -- the context file was read, where one is named, and then the pages, which are judged so; each file was started once
-pub record GathersPages (gathering : Gathering) (pages : List Page) (old new : ShelfContent) : Type 0 where
+pub record GathersPages (gathering : Gathering) (pages : List JudgedPage) (old new : ShelfContent) : Type 0 where
   pub context : Context
-  pub holds : IsContext gathering.context old context
+  pub holds : ContextHolds gathering.context old context
   pub judged : JudgesEach GivesTriples gathering.syntax context old.files gathering.pages pages
   pub starts : new.starts ≡ old.starts + (context_count gathering.context + length gathering.pages)

@@ -4,15 +4,15 @@ use Rattle.rx_ports.specs.Shelves.{ShelfContent}
 use Rattle.rx_ports.specs.Files.{file_of}
 use Rattle.rx_rdfa.specs.Common.{Chars, Context, Fault}
 use Rattle.rx_job.specs.Words.{Job, Asked, Task, Gathering, Listed, reads, gathers, samples, extracts, itemizes, checks, job, page_asked}
-use Rattle.rx_command.specs.Contexts.{IsContext, HasContext, HasOther, LacksContext, context_in}
+use Rattle.rx_command.specs.Contexts.{ContextHolds, HasContext, HasWrongContext, LacksContext, context_in}
 use Rattle.rx_command.specs.Reading.{largest_piece}
 use Rattle.rx_page.specs.Tasks.{TaskGives, TaskDenotes, TaskRefuses, is_of_items}
 
 -- no more was read than a piece past the byte that decides the fault, where that isn't an item's
-abbrev pub ReadsTo : Task → Fault → ℕ → ℕ → Type 0
-ReadsTo (extracts e) fault before now = now ≤ before + (fault.at + largest_piece)
-ReadsTo (itemizes i) fault before now = is_of_items fault.kind ≡ false → now ≤ before + (fault.at + largest_piece)
-ReadsTo (checks syntax) fault before now = now ≤ before + (fault.at + largest_piece)
+abbrev pub ReadsAtMost : Task → Fault → ℕ → ℕ → Type 0
+ReadsAtMost (extracts e) fault before now = now ≤ before + (fault.at + largest_piece)
+ReadsAtMost (itemizes i) fault before now = is_of_items fault.kind ≡ false → now ≤ before + (fault.at + largest_piece)
+ReadsAtMost (checks syntax) fault before now = now ≤ before + (fault.at + largest_piece)
 
 -- the words name a page, the shelf tells its files, this context holds, and the page has these bytes
 pub record NamesPage (words : List Chars) (told : Option ShelfContent) (bytes : List ℕ) : Type 0 where
@@ -21,7 +21,7 @@ pub record NamesPage (words : List Chars) (told : Option ShelfContent) (bytes : 
   pub context : Context
   pub asks : page_asked words ≡ Some asked
   pub tells : told ≡ Some shelf
-  pub holds : IsContext asked.context shelf context
+  pub holds : ContextHolds asked.context shelf context
   pub file : file_of shelf.files (encode_utf8_all asked.page) ≡ Some bytes
 
 -- the page has this text
@@ -73,4 +73,4 @@ LacksFile words told = Meets JobLacks words told
 
 -- there is no outcome: the context file that is named is there and is no context
 abbrev pub HasBadContext : List Chars → Option ShelfContent → Type 0
-HasBadContext words told = Meets (λ asked shelf. HasOther (context_in asked) shelf) words told
+HasBadContext words told = Meets (λ asked shelf. HasWrongContext (context_in asked) shelf) words told

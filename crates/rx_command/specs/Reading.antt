@@ -6,7 +6,7 @@ use Rattle.rx_ports.specs.Files.{file_of}
 use Rattle.rx_ports.specs.Shelves.{ShelfContent, WhereKnown}
 use Rattle.rx_command.specs.declared.errors.InputError.{InputError}
 use Rattle.rx_command.specs.declared.errors.InputError.TheVariants as error
-use Rattle.rx_page.specs.Settings.{standard, HasFirst}
+use Rattle.rx_page.specs.Settings.{standard_limits, HasFirst}
 
 -- the most bytes that a read asks for
 abbrev pub largest_piece : ℕ
@@ -18,7 +18,7 @@ IsPiece room = (0 < room) × (room ≤ largest_piece)
 
 -- how much is read of a page at most
 abbrev pub page_limit : ℕ
-page_limit = standard.page + largest_piece
+page_limit = standard_limits.page + largest_piece
 
 -- A byte of the piece decides the fault, whatever follows.
 pub record DecidesFault (way : Way) (bytes piece : List ℕ) (fault : Fault) : Type 0 where
@@ -55,13 +55,13 @@ EndFails way bytes error.BadContext = ⊥
 EndFails way bytes error.NoMemory = Unit {0}
 
 -- the page ends, and this holds of its bytes and of what it gives
-abbrev pub EndGives : {A : Type 0} → Way → (List ℕ → A → Type 0) → List ℕ → Result A InputError → Type 0
-EndGives way holds bytes (Ok given) = holds bytes given
-EndGives way holds bytes (Err why) = EndFails way bytes why
+abbrev pub FileEndGives : {A : Type 0} → Way → (List ℕ → A → Type 0) → List ℕ → Result A InputError → Type 0
+FileEndGives way holds bytes (Ok given) = holds bytes given
+FileEndGives way holds bytes (Err why) = EndFails way bytes why
 
 -- whatever the reader was made with, this holds where it is before the first byte of a page
-abbrev pub FromStart : {S R : Type 0} → (S → R → List ℕ → Type 0) → R → (S → Type 0) → Type 0
-FromStart stands reader holds = (setting : _) → stands setting reader [] → holds setting
+abbrev pub HoldsAtStart : {S R : Type 0} → (S → R → List ℕ → Type 0) → R → (S → Type 0) → Type 0
+HoldsAtStart stands reader holds = (setting : _) → stands setting reader [] → holds setting
 
 -- a read gave some bytes, no more than a piece, which whatever the reader stood for went on with
 abbrev pub ReadsNext : {S R : Type 0} → (S → Way) → (S → R → List ℕ → Type 0) → R → ℕ → Result ℕ InputError → R → Option ShelfContent → Option ShelfContent → Type 0
@@ -70,7 +70,7 @@ ReadsNext way stands old room result new before now =
 
 -- the page's end, whatever the reader was made with, and whatever bytes lead to where it stands
 abbrev pub ReadingEnds : {S R A : Type 0} → (S → Way) → (S → R → List ℕ → Type 0) → (S → List ℕ → A → Type 0) → R → Result A InputError → Type 0
-ReadingEnds way stands gives reader result = (setting : _) (bytes : List ℕ) → stands setting reader bytes → EndGives (way setting) (gives setting) bytes result
+ReadingEnds way stands gives reader result = (setting : _) (bytes : List ℕ) → stands setting reader bytes → FileEndGives (way setting) (gives setting) bytes result
 
 -- The file was started once and read to its end, and this holds of its bytes and of what they give.
 pub record ReadsWhole {A : Type 0} (holds : List ℕ → A → Type 0) (name : List ℕ) (given : A) (old new : ShelfContent) : Type 0 where
@@ -115,7 +115,7 @@ pub record IsFile (name bytes : List ℕ) (old new : ShelfContent) : Type 0 wher
 -- the reader, which was made with this, is before the first byte of a page, which may be as large as any
 pub record StartsPage {S R : Type 0} (way : S → Way) (stands : S → R → List ℕ → Type 0) (reader : R) : Type 0 where
   pub setting : S
-  pub limits : (way setting).limits ≡ standard
+  pub limits : (way setting).limits ≡ standard_limits
   pub at : stands setting reader []
 
 -- the reader stands where the whole file leads
@@ -131,9 +131,9 @@ PageFails way name error.Failed before now = WhereKnown (ReadsClean way name) be
 PageFails way name error.BadContext before now = ⊥
 PageFails way name error.NoMemory before now = Unit {0}
 
-abbrev pub FileGives : {R : Type 0} → Way → (R → List ℕ → Type 0) → List ℕ → Result (Unit {0}) InputError → R → Option ShelfContent → Option ShelfContent → Type 0
-FileGives way stands name (Ok done) reader before now = FedFile stands name reader before now
-FileGives way stands name (Err why) reader before now = PageFails way name why before now
+abbrev pub FedFileGives : {R : Type 0} → Way → (R → List ℕ → Type 0) → List ℕ → Result (Unit {0}) InputError → R → Option ShelfContent → Option ShelfContent → Type 0
+FedFileGives way stands name (Ok done) reader before now = FedFile stands name reader before now
+FedFileGives way stands name (Err why) reader before now = PageFails way name why before now
 
 -- the file was read to its end, and this holds of its bytes and of what they give; or it wasn't
 abbrev pub PageGives : {A : Type 0} → Way → (List ℕ → A → Type 0) → List ℕ → Result A InputError → Option ShelfContent → Option ShelfContent → Type 0

@@ -4,11 +4,11 @@ use Rattle.std.specs.Fmt.{decimal}
 use Rattle.rx_ports.specs.Counts.{Rose}
 use Rattle.rx_ports.specs.Files.{file_of}
 use Rattle.rx_ports.specs.Shelves.{ShelfContent, WhereKnown, GrowsBy, GrowsByPart, Stays}
-use Rattle.rx_rdfa.specs.Common.{Chars, kind_name, Fault}
+use Rattle.rx_rdfa.specs.Common.{Chars, Fault}
 use Rattle.rx_job.specs.Words.{Job, Asked, Gathering, reads, gathers, samples, job, page_in}
 use Rattle.rx_command.specs.Files.{size_of}
-use Rattle.rx_command.specs.Contexts.{HasOther, TakesContext, context_size, context_limit, context_count}
-use Rattle.rx_command.specs.Outcome.{LacksFile, LacksOne, ReadsTo}
+use Rattle.rx_command.specs.Contexts.{HasWrongContext, TakesContext, context_size, context_limit, context_count}
+use Rattle.rx_command.specs.Outcome.{LacksFile, LacksOne, ReadsAtMost}
 use Rattle.rx_command.specs.Gathering.{IsGathered, DenotesGathered, TakesGathering}
 use Rattle.rx_command.specs.Inputs.{StopsClean, TellsThat, WhereTold}
 use Rattle.rx_command.specs.Samples.{IsSample}
@@ -35,8 +35,8 @@ abbrev pub IfTold : Option ShelfContent → Type 0 → Type 0
 IfTold told holds = (content : ShelfContent) → told ≡ Some content → holds
 
 -- there is a text then of which this holds, and what a sink holds became another with it
-abbrev pub Writes : Option ShelfContent → (List ℕ → Type 0) → (List ℕ → List ℕ → List ℕ → Type 0) → Option (List ℕ) → Option (List ℕ) → Type 0
-Writes told is grows old new = (content : ShelfContent) → told ≡ Some content → (text : List ℕ) × is text × WhereKnown (grows text) old new
+abbrev pub WritesToSink : Option ShelfContent → (List ℕ → Type 0) → (List ℕ → List ℕ → List ℕ → Type 0) → Option (List ℕ) → Option (List ℕ) → Type 0
+WritesToSink told is grows old new = (content : ShelfContent) → told ≡ Some content → (text : List ℕ) × is text × WhereKnown (grows text) old new
 
 -- this holds of the fault for which the page is refused
 abbrev pub WhereRefused : Status → (Fault → Type 0) → Type 0
@@ -115,10 +115,6 @@ abbrev pub refused_with : List ℕ → ℕ → ℕ → List ℕ
 refused_with kind at token =
     codes "refused: " ++ (kind ++ (codes " at byte " ++ (decimal at ++ (codes " in token " ++ (decimal token ++ codes "\n")))))
 
-abbrev pub refused_line : Fault → List ℕ
-refused_line fault =
-    codes "refused: " ++ kind_name fault.kind ++ codes " at byte " ++ decimal fault.at ++ codes " in token " ++ decimal fault.token ++ codes "\n"
-
 -- the line was written, or a front of it, where the sink failed
 abbrev pub Says : List ℕ → Option (List ℕ) → Option (List ℕ) → ℕ → ℕ → Type 0
 Says line old new before now = WhereKnown (GrowsBy line) old new ⊎ (Rose before now × WhereKnown (GrowsByPart line) old new)
@@ -160,7 +156,7 @@ EndsAs gathering status.WriteFault old new =
     (text : List ℕ) × WhereTold (IsGathered gathering text) old.told × WhereKnown (GrowsByPart text) old.held new.held × Rose old.write_faults new.write_faults
 EndsAs gathering status.ReadFault old new = (Rose old.read_faults new.read_faults ⊎ TellsThat (LacksOne gathering) old.told) × WhereKnown Stays old.held new.held
 EndsAs gathering status.BadContext old new =
-    (is_some gathering.context ≡ true) × WhereTold (HasOther gathering.context) old.told
+    (is_some gathering.context ≡ true) × WhereTold (HasWrongContext gathering.context) old.told
     × WhereKnown (TakesContext gathering.context) old.told new.told × WhereKnown Stays old.held new.held
 EndsAs gathering status.Memory old new = WhereKnown Stays old.held new.held
 EndsAs gathering (status.Refused fault) old new = ⊥
@@ -179,7 +175,7 @@ pub record GatheringEnds (gathering : Gathering) (s : Status) (old new : Devices
 -- a page that is refused was read no further than a piece past the byte that decides the fault, where that isn't an item's
 abbrev pub TakesToFault : Option Asked → Fault → ShelfContent → ShelfContent → Type 0
 TakesToFault None fault old new = Unit {0}
-TakesToFault (Some asked) fault old new = ReadsTo asked.task fault (old.taken + context_size asked.context old) new.taken
+TakesToFault (Some asked) fault old new = ReadsAtMost asked.task fault (old.taken + context_size asked.context old) new.taken
 
 -- where the page is there, what was read of it behind the context file holds no fault but that it ends
 abbrev pub StopsCleanly : Option Asked → ShelfContent → ShelfContent → Type 0

@@ -1,6 +1,6 @@
 -- The sample page, and the line that is said of it. Own.
 use Rattle.std.specs.Prelude.{◌≡◌, ◌≤◌, ◌<◌, ◌⊎◌, ℕ, zero, suc, List, ◌++◌, length, Option, Some, None, encode_utf8_all, codes}
-use Rattle.rx_grammar.specs.Common.{Chars, Html, Entry, Tree, Line, Phase}
+use Rattle.rx_grammar.specs.Common.{Chars, Html, PlacedCharacter, Tree, Line, Phase}
 use Rattle.rx_model.specs.Common.{decimal, Triple}
 use Rattle.rx_rdfa.specs.Standard as names
 use Rattle.rx_rdfa.specs.Whole.{written}
@@ -8,12 +8,13 @@ use Rattle.rx_pages.specs.Fronts.{IsUnderway}
 use Rattle.rx_nest.specs.ShownLines.{shown_line}
 use Rattle.rx_nquads.specs.Writing.{nquads}
 use Rattle.rx_walk.specs.Settings.{Setting}
-use Rattle.rx_page.specs.Settings.{standard, setting_for}
+use Rattle.rx_page.specs.Settings.{standard_limits, setting_for}
 use Rattle.rx_ports.specs.Shelves.{ShelfContent}
 use Rattle.rx_job.specs.Words.{job, samples, most_items}
-use Rattle.rx_page.specs.Tasks.{IsAccepted, base_in, facts_in}
+use Rattle.rx_page.specs.Tasks.{IsAccepted, facts_in}
 use Rattle.rx_command.specs.Outcome.{HasPageText, HasPageGraph}
 use Rattle.rx_command.specs.Gathering.{GatheredText, GatheredGraphs}
+use Rattle.rx_microdata.specs.Base.{base_in}
 
 -- what stands before the items
 abbrev pub head : List ℕ
@@ -27,8 +28,8 @@ abbrev pub item_behind : List ℕ
 item_behind = codes "</span></div>\n"
 
 -- what stands behind the items
-abbrev pub tail : List ℕ
-tail = codes "</body>\n</html>\n"
+abbrev pub behind_items : List ℕ
+behind_items = codes "</body>\n</html>\n"
 
 -- the page up to the end of so many items
 abbrev pub items_to : ℕ → List ℕ
@@ -37,7 +38,7 @@ items_to (suc i) = items_to i ++ (item_before i ++ item_behind)
 
 -- the page of so many items
 abbrev pub sample_page : ℕ → List ℕ
-sample_page count = items_to count ++ tail
+sample_page count = items_to count ++ behind_items
 
 -- the page up to the end tag of the name of item i, where a piece ends
 abbrev pub cut_in : ℕ → List ℕ
@@ -52,9 +53,9 @@ pub data IsCut (count : ℕ) : List ℕ → Type 0 where
 pub record HasDepth (bytes : List ℕ) (depth : ℕ) : Type 0 where
   pub line : Line
   pub phase : Phase
-  pub run : List Entry
+  pub run : List PlacedCharacter
   pub part : List ℕ
-  pub underway : IsUnderway Html standard bytes line phase run part
+  pub underway : IsUnderway Html standard_limits bytes line phase run part
   pub is : depth ≡ length (shown_line Html line)
 
 -- the most elements that are open where a piece of the page ends

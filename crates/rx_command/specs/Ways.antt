@@ -9,8 +9,8 @@ use Rattle.rx_nest.specs.Ways.{Way}
 use Rattle.rx_page.specs.Settings.{rdfa_way, GivesList}
 use Rattle.rx_command.specs.declared.pages.Approach.{Approach}
 
-abbrev pub way_of : Approach → Way
-way_of approach = rdfa_way approach.syntax approach.context
+abbrev pub approach_way : Approach → Way
+approach_way approach = rdfa_way approach.syntax approach.context
 
 abbrev pub extraction_of : Approach → Format → Option (Bor Chars) → Extraction
 extraction_of approach format graph =

@@ -3,8 +3,8 @@ ghost use Rattle.std.specs.Prelude.{◌≡◌, ◌≤◌, ◌++◌, [], ◌∷�
 ghost use Rattle.rx_many.specs.Pages.{accepted_page};
 ghost use Rattle.rx_ports.specs.Shelves.{WhereKnown};
 ghost use Rattle.rx_job.specs.Jobs.{several_seen, page_at};
-ghost use Rattle.rx_command.specs.Contexts.{HasOther, TakesContext};
-ghost use Rattle.rx_command.specs.Gathering.{AddsPage, AddsPages, GathersPages, TakesGathering, TakesPart, TakesParts};
+ghost use Rattle.rx_command.specs.Contexts.{HasWrongContext, TakesContext};
+ghost use Rattle.rx_command.specs.Gathering.{AddsPages, GathersPage, GathersPages, TakesGathering, TakesPart, TakesParts};
 ghost use Rattle.rx_command.specs.Inputs.{WhereTold};
 ghost use Rattle.rx_command.specs.Outcome.{LacksOne, LacksPage};
 ghost use Rattle.rx_command.specs.Calls.{FailedOr, FailedOrLacks, Steady};
@@ -33,7 +33,7 @@ pub(crate) fn gather<F: Shelf>(
     ensures ok { IfOk result (λ many. WhereKnown (GathersPages (several_seen several.entry) many) (F.told shelf.old) (F.told shelf.new)) }
     ensures not_refused { (fault : Fault) → result ≡ Err (InputError.Refused fault) → ⊥ }
     ensures takes { WhereKnown (TakesGathering (several_seen several.entry)) (F.told shelf.old) (F.told shelf.new) }
-    ensures bad { IsErrOf result InputError.BadContext → WhereTold (HasOther (several_seen several.entry).context) (F.told shelf.old) }
+    ensures bad { IsErrOf result InputError.BadContext → WhereTold (HasWrongContext (several_seen several.entry).context) (F.told shelf.old) }
     ensures bad_takes { IsErrOf result InputError.BadContext →
         WhereKnown (TakesContext (several_seen several.entry).context) (F.told shelf.old) (F.told shelf.new) }
     ensures named { IsErrOf result InputError.BadContext → is_some (several_seen several.entry).context ≡ true }
@@ -126,7 +126,7 @@ fn gather_page<F: Shelf>(
     many: &mut Many,
 ) -> Result<(), InputError>
     requires { IsPiece (vec_len piece.old) }
-    ensures ok { OnOk result (AddsPage context.now syntax (page_at address.now page.now) many.old many.new (F.told shelf.old) (F.told shelf.new)) }
+    ensures ok { OnOk result (GathersPage context.now syntax (page_at address.now page.now) many.old many.new (F.told shelf.old) (F.told shelf.new)) }
     ensures takes { WhereKnown (TakesPart context.now syntax (page_at address.now page.now)) (F.told shelf.old) (F.told shelf.new) }
     ensures not_refused { (fault : Fault) → result ≡ Err (InputError.Refused fault) → ⊥ }
     ensures no_context { IsErrOf result InputError.BadContext → ⊥ }

@@ -7,12 +7,12 @@ ghost use Rattle.rx_command.specs.Files.{TakesOf};
 ghost use Rattle.rx_command.specs.Reading.{page_limit};
 ghost use Rattle.rx_rdfa.specs.Names.{Context as RulesContext};
 ghost use Rattle.rx_page.specs.Settings.{item_way, rdfa_way};
-ghost use Rattle.rx_command.specs.Ways.{way_of, extracts_by, itemizes_by};
-ghost use Rattle.rx_command.specs.Contexts.{IsContextFile, ReadsContext, TakesContext, LacksContext, HasOther};
+ghost use Rattle.rx_command.specs.Ways.{approach_way, extracts_by, itemizes_by};
+ghost use Rattle.rx_command.specs.Contexts.{IsContextFile, ReadsContext, TakesContext, LacksContext, HasWrongContext};
 ghost use Rattle.rx_command.specs.Outcome.{IsLacking};
 ghost use Rattle.rx_command.specs.Inputs.{JobText, JobRefused, WhereTold};
 ghost use Rattle.rx_command.specs.Runs.{TakesFiles, StopsCleanly};
-ghost use Rattle.rx_command.specs.Calls.{GivesBy, GivesText, RefusesBy, RefusesPage, StopsBy, FailedOr, FailedOrLacks, Steady};
+ghost use Rattle.rx_command.specs.Calls.{MovesShelf, GivesText, RefusesBy, RefusesPage, StopsBy, FailedOr, FailedOrLacks, Steady};
 
 use crate::errors::InputError;
 use crate::files::{ReadError, read_file};
@@ -32,10 +32,10 @@ pub(crate) fn outcome_of_job<F: Shelf>(
     job: Job,
 ) -> Result<Outcome, InputError>
     requires { reads_page job ≡ true }
-    ensures ok { GivesBy result (JobText (page_by job)) (F.told shelf.old) (F.told shelf.new) }
+    ensures ok { MovesShelf result (JobText (page_by job)) (F.told shelf.old) (F.told shelf.new) }
     ensures refused { RefusesBy result (JobRefused (page_by job)) (F.told shelf.old) (F.told shelf.new) }
     ensures takes { WhereKnown (TakesFiles (Some (page_by job))) (F.told shelf.old) (F.told shelf.new) }
-    ensures bad { IsErrOf result InputError.BadContext → WhereTold (HasOther (page_by job).context) (F.told shelf.old) }
+    ensures bad { IsErrOf result InputError.BadContext → WhereTold (HasWrongContext (page_by job).context) (F.told shelf.old) }
     ensures bad_takes { IsErrOf result InputError.BadContext → WhereKnown (TakesContext (page_by job).context) (F.told shelf.old) (F.told shelf.new) }
     ensures named { IsErrOf result InputError.BadContext → is_some (page_by job).context ≡ true }
     ensures failed { IsErrOf result InputError.Failed → FailedOr F.told F.faults shelf.old shelf.new (IsLacking (page_by job)) }
@@ -51,10 +51,10 @@ pub(crate) fn outcome_of_job<F: Shelf>(
 /// The same of a job that is lent.
 fn outcome_by<F: Shelf>(alloc: Global, shelf: &mut F, job: &Job) -> Result<Outcome, InputError>
     requires { reads_page job.now ≡ true }
-    ensures ok { GivesBy result (JobText (page_by job.now)) (F.told shelf.old) (F.told shelf.new) }
+    ensures ok { MovesShelf result (JobText (page_by job.now)) (F.told shelf.old) (F.told shelf.new) }
     ensures refused { RefusesBy result (JobRefused (page_by job.now)) (F.told shelf.old) (F.told shelf.new) }
     ensures takes { WhereKnown (TakesFiles (Some (page_by job.now))) (F.told shelf.old) (F.told shelf.new) }
-    ensures bad { IsErrOf result InputError.BadContext → WhereTold (HasOther (page_by job.now).context) (F.told shelf.old) }
+    ensures bad { IsErrOf result InputError.BadContext → WhereTold (HasWrongContext (page_by job.now).context) (F.told shelf.old) }
     ensures bad_takes { IsErrOf result InputError.BadContext → WhereKnown (TakesContext (page_by job.now).context) (F.told shelf.old) (F.told shelf.new) }
     ensures named { IsErrOf result InputError.BadContext → is_some (page_by job.now).context ≡ true }
     ensures failed { IsErrOf result InputError.Failed → FailedOr F.told F.faults shelf.old shelf.new (IsLacking (page_by job.now)) }
@@ -82,10 +82,10 @@ fn outcome_under_context<F: Shelf>(
     job: &Job,
 ) -> Result<Outcome, InputError>
     requires { has_context job.now ≡ true }
-    ensures ok { GivesBy result (JobText (page_by job.now)) (F.told shelf.old) (F.told shelf.new) }
+    ensures ok { MovesShelf result (JobText (page_by job.now)) (F.told shelf.old) (F.told shelf.new) }
     ensures refused { RefusesBy result (JobRefused (page_by job.now)) (F.told shelf.old) (F.told shelf.new) }
     ensures takes { WhereKnown (TakesFiles (Some (page_by job.now))) (F.told shelf.old) (F.told shelf.new) }
-    ensures bad { IsErrOf result InputError.BadContext → WhereTold (HasOther (page_by job.now).context) (F.told shelf.old) }
+    ensures bad { IsErrOf result InputError.BadContext → WhereTold (HasWrongContext (page_by job.now).context) (F.told shelf.old) }
     ensures bad_takes { IsErrOf result InputError.BadContext → WhereKnown (TakesContext (page_by job.now).context) (F.told shelf.old) (F.told shelf.new) }
     ensures named { IsErrOf result InputError.BadContext → is_some (page_by job.now).context ≡ true }
     ensures failed { IsErrOf result InputError.Failed → FailedOr F.told F.faults shelf.old shelf.new (IsLacking (page_by job.now)) }
@@ -138,7 +138,7 @@ fn extract<F: Shelf>(
     ensures takes { WhereKnown (TakesOf (encode_utf8_all page.now) page_limit) (F.told shelf.old) (F.told shelf.new) }
     ensures context { IsErrOf result InputError.BadContext → ⊥ }
     ensures failed { IsErrOf result InputError.Failed → FailedOrLacks F.told F.faults shelf.old shelf.new (encode_utf8_all page.now) }
-    ensures cleanly { StopsBy result (way_of approach) (encode_utf8_all page.now) (F.told shelf.old) (F.told shelf.new) }
+    ensures cleanly { StopsBy result (approach_way approach) (encode_utf8_all page.now) (F.told shelf.old) (F.told shelf.new) }
     ensures later { F.faults shelf.old ≤ F.faults shelf.new }
     ensures steady { Steady result (F.faults shelf.old) (F.faults shelf.new) }
 {
@@ -224,7 +224,7 @@ pub(crate) fn read_context<F: Shelf>(
 ) -> Result<Context, InputError>
     ensures ok { IfOk result (λ context. WhereKnown (ReadsContext (text_in file.entry) context) (F.told shelf.old) (F.told shelf.new)) }
     ensures takes { WhereKnown (TakesContext (text_in file.entry)) (F.told shelf.old) (F.told shelf.new) }
-    ensures bad { IsErrOf result InputError.BadContext → WhereTold (HasOther (text_in file.entry)) (F.told shelf.old) }
+    ensures bad { IsErrOf result InputError.BadContext → WhereTold (HasWrongContext (text_in file.entry)) (F.told shelf.old) }
     ensures named { IsErrOf result InputError.BadContext → is_some (text_in file.entry) ≡ true }
     ensures not_refused { (fault : Fault) → result ≡ Err (InputError.Refused fault) → ⊥ }
     ensures failed { IsErrOf result InputError.Failed → FailedOr F.told F.faults shelf.old shelf.new (LacksContext (text_in file.entry)) }

@@ -2,10 +2,10 @@
 ghost use Rattle.std.specs.Prelude.{◌<◌, ◌≤◌, IfOk, IsErrOf, length, vec_len};
 ghost use Rattle.rx_ports.specs.Counts.{Rose};
 ghost use Rattle.rx_ports.specs.Shelves.{WhereKnown};
-ghost use Rattle.rx_page.specs.Settings.{GivesItems, GivesRight, item_way, rdfa_way};
-ghost use Rattle.rx_command.specs.Reading.{IsPiece, page_limit, StartsPage, ReadsNext, FileGives, PageGives, TakesToFirst, FromStart, ReadingEnds};
+ghost use Rattle.rx_page.specs.Settings.{GivesRight, PageHasItems, item_way, rdfa_way};
+ghost use Rattle.rx_command.specs.Reading.{IsPiece, page_limit, StartsPage, ReadsNext, FedFileGives, PageGives, TakesToFirst, HoldsAtStart, ReadingEnds};
 ghost use Rattle.rx_command.specs.Files.{TakesWithin, TakesOf};
-ghost use Rattle.rx_command.specs.Ways.{way_of, GivesListOf};
+ghost use Rattle.rx_command.specs.Ways.{approach_way, GivesListOf};
 ghost use Rattle.rx_command.specs.Calls.{FailedOrLacks, Steady};
 
 use crate::errors::InputError;
@@ -40,9 +40,9 @@ pub(crate) fn read_page<F: Shelf>(
     name: &str,
     approach: Approach,
 ) -> Result<TripleList, InputError>
-    ensures gives { PageGives (way_of approach) (GivesListOf approach) name.now result (F.told shelf.old) (F.told shelf.new) }
+    ensures gives { PageGives (approach_way approach) (GivesListOf approach) name.now result (F.told shelf.old) (F.told shelf.new) }
     ensures takes { WhereKnown (TakesOf name.now page_limit) (F.told shelf.old) (F.told shelf.new) }
-    ensures to_first { WhereKnown (TakesToFirst (way_of approach) name.now) (F.told shelf.old) (F.told shelf.new) }
+    ensures to_first { WhereKnown (TakesToFirst (approach_way approach) name.now) (F.told shelf.old) (F.told shelf.new) }
     ensures later { F.faults shelf.old ≤ F.faults shelf.new }
     ensures steady { Steady result (F.faults shelf.old) (F.faults shelf.new) }
     ensures failed { IsErrOf result InputError.Failed → FailedOrLacks F.told F.faults shelf.old shelf.new name.now }
@@ -63,9 +63,9 @@ pub(crate) fn read_page_by<F: Shelf>(
     piece: &mut Vec<u8>,
 ) -> Result<TripleList, InputError>
     requires { IsPiece (vec_len piece.old) }
-    ensures gives { PageGives (way_of approach) (GivesListOf approach) name.now result (F.told shelf.old) (F.told shelf.new) }
+    ensures gives { PageGives (approach_way approach) (GivesListOf approach) name.now result (F.told shelf.old) (F.told shelf.new) }
     ensures takes { WhereKnown (TakesOf name.now page_limit) (F.told shelf.old) (F.told shelf.new) }
-    ensures to_first { WhereKnown (TakesToFirst (way_of approach) name.now) (F.told shelf.old) (F.told shelf.new) }
+    ensures to_first { WhereKnown (TakesToFirst (approach_way approach) name.now) (F.told shelf.old) (F.told shelf.new) }
     ensures later { F.faults shelf.old ≤ F.faults shelf.new }
     ensures steady { Steady result (F.faults shelf.old) (F.faults shelf.new) }
     ensures failed { IsErrOf result InputError.Failed → FailedOrLacks F.told F.faults shelf.old shelf.new name.now }
@@ -88,7 +88,7 @@ pub(crate) fn read_items<F: Shelf>(
     syntax: Syntax,
     address: Iri,
 ) -> Result<Items, InputError>
-    ensures gives { PageGives (item_way syntax) (GivesItems syntax address) name.now result (F.told shelf.old) (F.told shelf.new) }
+    ensures gives { PageGives (item_way syntax) (PageHasItems syntax address) name.now result (F.told shelf.old) (F.told shelf.new) }
     ensures takes { WhereKnown (TakesOf name.now page_limit) (F.told shelf.old) (F.told shelf.new) }
     ensures later { F.faults shelf.old ≤ F.faults shelf.new }
     ensures steady { Steady result (F.faults shelf.old) (F.faults shelf.new) }
@@ -146,7 +146,7 @@ fn read<F: Shelf, R: PageReader + Drop>(
     reader: R,
 ) -> Result<R::Given, InputError>
     requires { StartsPage R.way R.stands reader }
-    ensures gives { FromStart R.stands reader (λ setting. PageGives (R.way setting) (R.gives setting) name.now result (F.told shelf.old) (F.told shelf.new)) }
+    ensures gives { HoldsAtStart R.stands reader (λ setting. PageGives (R.way setting) (R.gives setting) name.now result (F.told shelf.old) (F.told shelf.new)) }
     ensures takes { WhereKnown (TakesOf name.now page_limit) (F.told shelf.old) (F.told shelf.new) }
     ensures later { F.faults shelf.old ≤ F.faults shelf.new }
     ensures steady { Steady result (F.faults shelf.old) (F.faults shelf.new) }
@@ -169,9 +169,9 @@ fn read_by<F: Shelf, R: PageReader + Drop>(
 ) -> Result<R::Given, InputError>
     requires starts { StartsPage R.way R.stands reader }
     requires room { IsPiece (vec_len piece.old) }
-    ensures gives { FromStart R.stands reader (λ setting. PageGives (R.way setting) (R.gives setting) name.now result (F.told shelf.old) (F.told shelf.new)) }
+    ensures gives { HoldsAtStart R.stands reader (λ setting. PageGives (R.way setting) (R.gives setting) name.now result (F.told shelf.old) (F.told shelf.new)) }
     ensures takes { WhereKnown (TakesOf name.now page_limit) (F.told shelf.old) (F.told shelf.new) }
-    ensures to_first { FromStart R.stands reader (λ setting. WhereKnown (TakesToFirst (R.way setting) name.now) (F.told shelf.old) (F.told shelf.new)) }
+    ensures to_first { HoldsAtStart R.stands reader (λ setting. WhereKnown (TakesToFirst (R.way setting) name.now) (F.told shelf.old) (F.told shelf.new)) }
     ensures later { F.faults shelf.old ≤ F.faults shelf.new }
     ensures steady { Steady result (F.faults shelf.old) (F.faults shelf.new) }
     ensures failed { IsErrOf result InputError.Failed → FailedOrLacks F.told F.faults shelf.old shelf.new name.now }
@@ -197,9 +197,9 @@ fn feed_file<F: Shelf, R: PageReader>(
 ) -> Result<(), InputError>
     requires starts { StartsPage R.way R.stands reader.old }
     requires room { IsPiece (vec_len piece.old) }
-    ensures gives { FromStart R.stands reader.old (λ setting. FileGives (R.way setting) (R.stands setting) name.now result reader.new (F.told shelf.old) (F.told shelf.new)) }
+    ensures gives { HoldsAtStart R.stands reader.old (λ setting. FedFileGives (R.way setting) (R.stands setting) name.now result reader.new (F.told shelf.old) (F.told shelf.new)) }
     ensures takes { WhereKnown (TakesOf name.now page_limit) (F.told shelf.old) (F.told shelf.new) }
-    ensures to_first { FromStart R.stands reader.old (λ setting. WhereKnown (TakesToFirst (R.way setting) name.now) (F.told shelf.old) (F.told shelf.new)) }
+    ensures to_first { HoldsAtStart R.stands reader.old (λ setting. WhereKnown (TakesToFirst (R.way setting) name.now) (F.told shelf.old) (F.told shelf.new)) }
     ensures later { F.faults shelf.old ≤ F.faults shelf.new }
     ensures steady { Steady result (F.faults shelf.old) (F.faults shelf.new) }
     ensures failed { IsErrOf result InputError.Failed → FailedOrLacks F.told F.faults shelf.old shelf.new name.now }

@@ -3,7 +3,7 @@ ghost use Rattle.std.specs.Prelude.{◌≡◌, ◌≤◌, ◌<◌, List, ℕ, su
 ghost use Rattle.rx_nquads.specs.Writing.{nquads};
 ghost use Rattle.rx_job.specs.Words.{most_items};
 ghost use Rattle.rx_command.specs.Samples.{IsSample, item_before, line_with, sample_address};
-ghost use Rattle.rx_command.specs.Feeding.{Fed, FedTo, FedWhole, IsDue, TakesPiece, larger};
+ghost use Rattle.rx_command.specs.Feeding.{Fed, FedTo, FedWhole, FeedsSample, TakesPiece, larger};
 ghost use Rattle.rx_page.specs.Written.{graph_made};
 
 use rx_names::Context;
@@ -107,7 +107,7 @@ impl Feeding {
 
     /// Feeds the piece, and counts its bytes and the elements that are open behind it.
     fn take(&mut self) -> Result<(), NoMemory>
-        requires { IsDue self.old }
+        requires { FeedsSample self.old }
         ensures { (bytes : List ℕ) → Fed bytes self.old → OnOk result (TakesPiece bytes self.old self.new) }
     {
         match self.walk.feed(self.piece.as_slice()) {

@@ -6,8 +6,9 @@ ghost use Rattle.rx_job.specs.Jobs.{several_seen};
 ghost use Rattle.rx_job.specs.Words.{gathering_asked, job, most_items, page_asked, samples};
 ghost use Rattle.rx_command.specs.Contexts.{TakesContext, context_asked};
 ghost use Rattle.rx_command.specs.Endings.{RunEnds};
-ghost use Rattle.rx_command.specs.Runs.{EndsSo, WhereRefused, WhereSample, ReadCause, TakesToFault, StopsCleanly, GatheringEnds, SampleEnds, Says, SaysNothing, usage_line, refused_line, context_line, refused_with};
-ghost use Rattle.rx_page.specs.Written.{Denoted, text_of};
+ghost use Rattle.rx_command.specs.Runs.{EndsSo, WhereRefused, WhereSample, ReadCause, TakesToFault, StopsCleanly, GatheringEnds, SampleEnds, Says, SaysNothing, usage_line, context_line, refused_with};
+ghost use Rattle.rx_page.specs.Written.{Denoted, output_text};
+ghost use Rattle.rx_grammar.specs.Kinds.{refused_line};
 
 use crate::errors::InputError;
 use crate::gathering::gather;
@@ -151,9 +152,9 @@ pub fn run<F: Shelf, O: Sink, E: Sink>(
 
 /// Writes the outcome's text, and doesn't let go of what it takes.
 fn write<O: Sink>(alloc: Global, outcome: Outcome, out: &mut O) -> Result<(), WriteError>
-    ensures ok { OnOk result (WhereKnown (GrowsBy (text_of outcome)) (O.held out.old) (O.held out.new)) }
+    ensures ok { OnOk result (WhereKnown (GrowsBy (output_text outcome)) (O.held out.old) (O.held out.new)) }
     ensures denoted { OnOk result (Denoted outcome) }
-    ensures partly { IsErrOf result WriteError.Failed → WhereKnown (GrowsByPart (text_of outcome)) (O.held out.old) (O.held out.new) }
+    ensures partly { IsErrOf result WriteError.Failed → WhereKnown (GrowsByPart (output_text outcome)) (O.held out.old) (O.held out.new) }
     ensures cause { IsErrOf result WriteError.Failed → Rose (O.faults out.old) (O.faults out.new) }
     ensures steady { OnOk result (O.faults out.new ≡ O.faults out.old) }
     ensures untouched { IsErrOf result WriteError.NoMemory → out.new ≡ out.old }

@@ -7,10 +7,10 @@ use Rattle.rx_curie.specs.declared.refs.Ref.TheVariants as code_ref
 use Rattle.rx_curie.specs.declared.facts.Datatype.{Datatype as CodeDatatype}
 use Rattle.rx_curie.specs.declared.facts.Datatype.TheVariants as code_datatype
 use Rattle.rx_curie.specs.declared.facts.Facts.{Facts as CodeFacts}
-use Rattle.rx_curie.specs.Seen.{kind_seen, ref_seen, refs_seen, datatype_seen, facts_seen, SeenOneToOne}
+use Rattle.rx_curie.specs.Seen.{element_seen, ref_seen, refs_seen, datatype_seen, facts_seen, FactsOneToOne}
 use Rattle.rx_names.proofs.PutLemmas.{some-same}
 
-kinds : (a b : CodeKind) → kind_seen a ≡ kind_seen b → a ≡ b
+kinds : (a b : CodeKind) → element_seen a ≡ element_seen b → a ≡ b
 kinds code_kind.Head code_kind.Head e = refl
 kinds code_kind.Body code_kind.Body e = refl
 kinds code_kind.Time code_kind.Time e = refl
@@ -71,5 +71,5 @@ facts a b e =
       lang = (e i).lang;
     }
 
-pub seen-one-to-one : SeenOneToOne
+pub seen-one-to-one : FactsOneToOne
 seen-one-to-one = record { kinds = kinds; refs = refs; datatypes = datatypes; facts = facts }

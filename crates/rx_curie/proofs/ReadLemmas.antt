@@ -1,5 +1,5 @@
 -- Words, as they are read.
-use Rattle.rx_rdfa.proofs.Common.{◌≡◌, ◌≢◌, ◌∙◌, ℕ, Bool, true, false, List, [], ◌∷◌, ◌++◌, reverse, Option, Some, None, MatchOption, Bor, codes, sym, ap, refl, arith, ◌==◌, is_some, chars, nat_tests, reverse-append, reverse-reverse, right_bracket, left_bracket, Chars, begins_with, is_empty, seen_slice, has_scheme, ascii-chars, by_test, Tag, Context}
+use Rattle.rx_rdfa.proofs.Common.{◌≡◌, ◌≢◌, ◌∙◌, ℕ, Bool, true, false, List, [], ◌∷◌, ◌++◌, reverse, Option, Some, None, MatchOption, Bor, codes, sym, ap, refl, arith, ◌==◌, is_some, chars, nat_tests, reverse-append, reverse-reverse, right_bracket, left_bracket, Chars, begins_with, is_empty, seen_slice, has_scheme, ascii-chars, by_test, ElementTag, Context}
 use Rattle.rx_rdfa.specs.Readings.{Joined, read_parts, xhtml_vocabulary}
 use Rattle.rx_curie.specs.Brackets.{before_bracket, inside_brackets}
 use Rattle.rx_reader.proofs.Fronts.{begins_append}
@@ -53,7 +53,7 @@ xhtml = ascii-chars xhtml_vocabulary refl
 pub xhtml-scheme : has_scheme (chars xhtml_vocabulary) ≡ true
 xhtml-scheme = ap has_scheme xhtml ∙ refl
 
-pub empty-prefix : (context : Context) (line : List Tag) (prefix reference : Chars) (b : Bool) → b ≡ is_empty prefix → b ≡ true
+pub empty-prefix : (context : Context) (line : List ElementTag) (prefix reference : Chars) (b : Bool) → b ≡ is_empty prefix → b ≡ true
     → Some (Joined (chars xhtml_vocabulary) reference) ≡ read_parts context line prefix reference
 empty-prefix context line [] reference b e h = ap (λ (x : Chars). Some (Joined x reference)) xhtml
 empty-prefix context line (c ∷ prefix) reference b e h = let g : true ≡ false = sym h ∙ e in absurd (cc g)

@@ -1,13 +1,13 @@
 -- What is refused of a start tag.
-use Rattle.rx_rdfa.proofs.Common.{◌≡◌, ◌∙◌, ℕ, ◌<◌, ◌/◌, ◌%◌, Bool, true, false, List, [], ◌∷◌, ◌++◌, codes, Option, Some, None, option_map, sym, ap, subst, refl, arith, ◌==◌, ◌&&◌, not, is_some, option_and_then, if◌then◌else◌, bytes_eq, bytes_decides, list_all, Chars, trimmed, has_scheme, is_scheme, is_scheme_char, is_forbidden, has_forbidden, begins_with_letter, by_test, before, behind, holds, cleaned, cleaned_char, digit, Tag, attribute, Context, vocab, declared_or, unless_empty, Facts, Datatype, Empty, Is, facts, predicate, predicates, datatype_of, Kind}
+use Rattle.rx_rdfa.proofs.Common.{◌≡◌, ◌∙◌, ℕ, ◌<◌, ◌/◌, ◌%◌, Bool, true, false, List, [], ◌∷◌, ◌++◌, codes, Option, Some, None, option_map, sym, ap, subst, refl, arith, ◌==◌, ◌&&◌, not, is_some, option_and_then, if◌then◌else◌, bytes_eq, bytes_decides, list_all, Chars, trimmed, has_scheme, is_scheme, is_scheme_char, is_forbidden, has_forbidden, begins_with_letter, by_test, before, behind, holds, cleaned, cleaned_char, digit, ElementTag, attribute, Context, vocab, declared_or, unless_empty, Facts, Datatype, Empty, Is, facts, predicate, predicates, attribute_datatype, Kind}
 use Rattle.rx_refs.proofs.PartLemmas.{behind-some, behind-none, before-lacks}
 use Rattle.rx_refs.proofs.SchemeLemmas.{cleaned-append, has_scheme-cut, has_scheme-uncut, none_at, forbidden-small, uncleaned}
 use Rattle.rx_terms.specs.Literal.{rdf_lang_string}
 use Rattle.rx_rdfa.specs.Refusals.{Refusal, RelativeVocab, XmlLiteral, HtmlLiteral, is_relative, is_datatype, refusal, rdf_xml_literal, rdf_html}
-use Rattle.rx_names.specs.Lines.{Kept, NamesStand}
+use Rattle.rx_names.specs.Lines.{KeptNames, NamesStand}
 use Rattle.rx_curie.specs.declared.facts.FactsError.TheVariants as error
-use Rattle.rx_curie.specs.Given.{own_vocabulary, vocabulary_from, kind_of, RefusesFor}
-use Rattle.rx_curie.specs.Refusing.{is_iri, markup, markup_of}
+use Rattle.rx_curie.specs.Given.{own_vocabulary, vocabulary_from, kind_of_refusal, RefusesFor}
+use Rattle.rx_curie.specs.Refusing.{is_that_iri, markup, markup_of}
 use Rattle.std.proofs.Math.Bool.{and-false as last-false}
 use Rattle.rx_refs.proofs.PlainLemmas.{scheme-clean}
 
@@ -69,13 +69,13 @@ relative-cleaned (Some text) = ap not (cleaned-scheme-same text)
 
 -- The first refusal that holds
 
-pub own-refused : (context : Context) (above : List Tag) (tag : Tag) → is_relative (own_vocabulary tag) ≡ true → refusal (facts context above tag) ≡ Some RelativeVocab
+pub own-refused : (context : Context) (above : List ElementTag) (tag : ElementTag) → is_relative (own_vocabulary tag) ≡ true → refusal (facts context above tag) ≡ Some RelativeVocab
 own-refused context above tag h = first-holds (facts context above tag) (relative-cleaned (own_vocabulary tag) ∙ h) where
   first-holds : (f : Facts) → is_relative f.vocab ≡ true → refusal f ≡ Some RelativeVocab
   first-holds f e = rw e refl
 
 -- a vocabulary in force is the tag's own, or one from above
-pub absolute-line : (tag : Tag) (above : List Tag) → is_relative (own_vocabulary tag) ≡ false → is_relative (vocabulary_from above tag) ≡ false → is_relative (vocab (tag ∷ above)) ≡ false
+pub absolute-line : (tag : ElementTag) (above : List ElementTag) → is_relative (own_vocabulary tag) ≡ false → is_relative (vocabulary_from above tag) ≡ false → is_relative (vocab (tag ∷ above)) ≡ false
 absolute-line tag above own other = go (attribute tag (codes "vocab")) own other where
   go : (o : Option Chars) → is_relative (option_and_then (λ value. unless_empty (trimmed value)) o) ≡ false → is_relative (if is_some o then None else vocab above) ≡ false
       → is_relative (declared_or o (λ value. unless_empty (trimmed value)) (vocab above)) ≡ false
@@ -83,7 +83,7 @@ absolute-line tag above own other = go (attribute tag (codes "vocab")) own other
   go (Some value) e h = e
 
 -- where that from above isn't relative, one that is relative is the tag's own
-pub own-relative : (tag : Tag) (above : List Tag) → is_relative (vocabulary_from above tag) ≡ false → is_relative (vocab (tag ∷ above)) ≡ true → is_relative (own_vocabulary tag) ≡ true
+pub own-relative : (tag : ElementTag) (above : List ElementTag) → is_relative (vocabulary_from above tag) ≡ false → is_relative (vocab (tag ∷ above)) ≡ true → is_relative (own_vocabulary tag) ≡ true
 own-relative tag above other here =
     by_test (is_relative (own_vocabulary tag)) (λ t. t) (λ t. let both : true ≡ false = sym here ∙ absolute-line tag above t other in absurd (cc both))
 
@@ -91,7 +91,7 @@ some-mapped : {A B : Type 0} (f : A → B) (o : Option A) → is_some (option_ma
 some-mapped f None = refl
 some-mapped f (Some x) = refl
 
-pub no-property : (context : Context) (above : List Tag) (tag : Tag) → is_relative (own_vocabulary tag) ≡ false → is_some (attribute tag (codes "property")) ≡ false
+pub no-property : (context : Context) (above : List ElementTag) (tag : ElementTag) → is_relative (own_vocabulary tag) ≡ false → is_some (attribute tag (codes "property")) ≡ false
     → refusal (facts context above tag) ≡ None
 no-property context above tag own none =
     none-holds (facts context above tag) (relative-cleaned (own_vocabulary tag) ∙ own) (some-mapped (predicates context (tag ∷ above)) (attribute tag (codes "property")) ∙ none) where
@@ -103,7 +103,7 @@ abbrev markup_as : Option Datatype → Chars → Chars → Option Refusal
 markup_as datatype xml html = if is_datatype datatype xml then Some XmlLiteral else if is_datatype datatype html then Some HtmlLiteral else None
 
 abbrev markup_in : Option Chars → Chars → Chars → Option Refusal
-markup_in iri xml html = if is_iri iri xml then Some XmlLiteral else if is_iri iri html then Some HtmlLiteral else None
+markup_in iri xml html = if is_that_iri iri xml then Some XmlLiteral else if is_that_iri iri html then Some HtmlLiteral else None
 
 datatype-apart : (lang xml html iri : Chars) → bytes_eq lang xml ≡ false → bytes_eq lang html ≡ false
     → markup_as (Some (if bytes_eq iri lang then Empty else Is iri)) xml html ≡ markup_in (Some iri) xml html
@@ -115,16 +115,16 @@ datatype-apart lang xml html iri a b =
     let h : bytes_eq iri html ≡ false = subst (λ z. bytes_eq z html ≡ false) (sym e) b in
     rw (t, x, h) refl) (λ t. rw t refl)
 
-datatype-markup : (iri : Option Chars) → markup_as (Some (datatype_of iri)) rdf_xml_literal rdf_html ≡ markup iri
+datatype-markup : (iri : Option Chars) → markup_as (Some (attribute_datatype iri)) rdf_xml_literal rdf_html ≡ markup iri
 datatype-markup None = refl
 datatype-markup (Some iri) = datatype-apart rdf_lang_string rdf_xml_literal rdf_html iri refl refl
 
-value-markup : (context : Context) (line : List Tag) (value : Option Chars)
-    → markup_as (option_map (λ text. datatype_of (predicate context line (trimmed text))) value) rdf_xml_literal rdf_html ≡ markup_of context line value
+value-markup : (context : Context) (line : List ElementTag) (value : Option Chars)
+    → markup_as (option_map (λ text. attribute_datatype (predicate context line (trimmed text))) value) rdf_xml_literal rdf_html ≡ markup_of context line value
 value-markup context line None = refl
 value-markup context line (Some text) = datatype-markup (predicate context line (trimmed text))
 
-pub with-property : (context : Context) (above : List Tag) (tag : Tag) → is_relative (own_vocabulary tag) ≡ false → is_some (attribute tag (codes "property")) ≡ true
+pub with-property : (context : Context) (above : List ElementTag) (tag : ElementTag) → is_relative (own_vocabulary tag) ≡ false → is_some (attribute tag (codes "property")) ≡ true
     → refusal (facts context above tag) ≡ markup_of context (tag ∷ above) (attribute tag (codes "datatype"))
 with-property context above tag own some =
     markup-holds (facts context above tag) (relative-cleaned (own_vocabulary tag) ∙ own) (some-mapped (predicates context (tag ∷ above)) (attribute tag (codes "property")) ∙ some)
@@ -134,16 +134,16 @@ with-property context above tag own some =
 
 -- the refusal in the code's words
 
-pub refuses-for : (k : Kind) (r : Option Refusal) → Some k ≡ option_map kind_of r → RefusesFor (error.Meaning k) r
+pub refuses-for : (k : Kind) (r : Option Refusal) → Some k ≡ option_map kind_of_refusal r → RefusesFor (error.Meaning k) r
 refuses-for k None e = absurd (cc)
 refuses-for k (Some refused) e = cc
 
-pub refuses-none : (r : Option Refusal) → None ≡ option_map kind_of r → r ≡ None
+pub refuses-none : (r : Option Refusal) → None ≡ option_map kind_of_refusal r → r ≡ None
 refuses-none None e = refl
 refuses-none (Some refused) e = absurd (cc)
 
 -- what is told of the refusal of a tag's attributes, told of the tag
-pub refused-line : (kept : Kept) (attributes tag : Tag) (told : Option Kind) → attributes ≡ tag
-    → ((above : List Tag) → NamesStand kept (attributes ∷ above) → is_relative (vocabulary_from above attributes) ≡ false → told ≡ option_map kind_of (refusal (facts kept.context above attributes)))
-    → (above : List Tag) → NamesStand kept (tag ∷ above) → is_relative (vocabulary_from above tag) ≡ false → told ≡ option_map kind_of (refusal (facts kept.context above tag))
-refused-line kept attributes tag told e line = subst (λ t. (above : List Tag) → NamesStand kept (t ∷ above) → is_relative (vocabulary_from above t) ≡ false → told ≡ option_map kind_of (refusal (facts kept.context above t))) e line
+pub refused-line : (kept : KeptNames) (attributes tag : ElementTag) (told : Option Kind) → attributes ≡ tag
+    → ((above : List ElementTag) → NamesStand kept (attributes ∷ above) → is_relative (vocabulary_from above attributes) ≡ false → told ≡ option_map kind_of_refusal (refusal (facts kept.context above attributes)))
+    → (above : List ElementTag) → NamesStand kept (tag ∷ above) → is_relative (vocabulary_from above tag) ≡ false → told ≡ option_map kind_of_refusal (refusal (facts kept.context above tag))
+refused-line kept attributes tag told e line = subst (λ t. (above : List ElementTag) → NamesStand kept (t ∷ above) → is_relative (vocabulary_from above t) ≡ false → told ≡ option_map kind_of_refusal (refusal (facts kept.context above t))) e line

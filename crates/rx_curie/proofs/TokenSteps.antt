@@ -1,5 +1,5 @@
 -- Tokens that are read one after another.
-use Rattle.rx_rdfa.proofs.Common.{◌≡◌, ◌∙◌, Bool, true, false, List, [], ◌∷◌, ◌++◌, filter, append_assoc, Option, Some, None, sym, ap, refl, Chars, option_to_list, Tag, Context, predicate, stays_beside_property, present_unless_none}
+use Rattle.rx_rdfa.proofs.Common.{◌≡◌, ◌∙◌, Bool, true, false, List, [], ◌∷◌, ◌++◌, filter, append_assoc, Option, Some, None, sym, ap, refl, Chars, option_to_list, ElementTag, Context, predicate, stays_beside_property, present_unless_none}
 use Rattle.std.specs.List.{filter_map}
 
 -- one token more, of which `p` makes a value or none
@@ -16,11 +16,11 @@ module _ {A B : Type 0} (p : A → Option B) where
       ∙ ap (λ (x : List B). old ++ x) (sym (ap (filter_map p) is ∙ filter_map-cons token more)) ∙ e
 
 -- the predicates so far, of the tokens that are kept beside `property`, and the tokens that are still to be read
-abbrev pub so_far : Context → List Tag → Bool → List Chars → List Chars → Option (List Chars)
+abbrev pub so_far : Context → List ElementTag → Bool → List Chars → List Chars → Option (List Chars)
 so_far context line true iris words = Some (iris ++ filter_map (predicate context line) (filter (stays_beside_property context line) words))
 so_far context line false iris words = present_unless_none context line (filter (stays_beside_property context line) words)
 
-pub is-kept : (context : Context) (line : List Tag) (present : Bool) (old new : List Chars) (words more : List Chars) (token : Chars) (whole : Option (List Chars))
+pub is-kept : (context : Context) (line : List ElementTag) (present : Bool) (old new : List Chars) (words more : List Chars) (token : Chars) (whole : Option (List Chars))
     → so_far context line present old words ≡ whole → (present ≡ false → old ≡ []) → words ≡ token ∷ more → stays_beside_property context line token ≡ true
     → new ≡ old ++ option_to_list (predicate context line token) → so_far context line true new more ≡ whole
 is-kept context line present old new words more token whole e none is stays f =

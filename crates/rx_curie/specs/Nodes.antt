@@ -13,11 +13,11 @@ abbrev pub are_nodes : List Ref → Bool
 are_nodes list = list_all is_node list
 
 -- the list, of which the first is kept apart
-abbrev pub first_with : Option Ref → List Ref → List Ref
-first_with None others = []
-first_with (Some first) others = first ∷ others
+abbrev pub nodes_with_first : Option Ref → List Ref → List Ref
+nodes_with_first None others = []
+nodes_with_first (Some first) others = first ∷ others
 
 -- where there is no first one there are no others
-abbrev pub IsFilled : Option Ref → List Ref → Type 0
-IsFilled None others = others ≡ []
-IsFilled (Some first) others = are_nodes (first ∷ others) ≡ true
+abbrev pub HoldsNodes : Option Ref → List Ref → Type 0
+HoldsNodes None others = others ≡ []
+HoldsNodes (Some first) others = are_nodes (first ∷ others) ≡ true

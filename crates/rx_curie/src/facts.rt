@@ -2,7 +2,7 @@
 ghost use Rattle.std.specs.Prelude.{◌≡◌};
 ghost use Rattle.std.specs.Str.{chars};
 ghost use Rattle.rx_rdfa.specs.Facts as the;
-ghost use Rattle.rx_curie.specs.Seen.{kind_seen};
+ghost use Rattle.rx_curie.specs.Seen.{element_seen};
 
 use crate::literals::{is_word, own_vocabulary, put_datatype, put_language, put_vocabulary};
 use crate::makers::IriMaker;
@@ -99,10 +99,13 @@ impl Facts {
     ghost use Rattle.std.specs.Prelude.{◌≡◌, false, true, IfErr, IsErrOf, OnErr, OnOk};
     ghost use Rattle.rx_rdfa.specs.Refusals.{is_relative};
     ghost use Rattle.rx_rdfa.specs.Facts as the;
-    ghost use Rattle.rx_names.specs.Tags.{tag_of};
+    ghost use Rattle.rx_tags.specs.Seen.{tag_seen};
+    ghost use Rattle.rx_rdfa.specs.Pages.{token_tag};
+    ghost use Rattle.rx_rdfa.specs.Pages.{token_tag};
+    ghost use Rattle.rx_tags.specs.Seen.{tag_seen};
     ghost use Rattle.rx_names.specs.Lines.{vocabulary_of};
     ghost use Rattle.rx_names.specs.Views.{names_seen, Along};
-    ghost use Rattle.rx_curie.specs.Given.{own_vocabulary, no_facts, is_silent, refers_to_nothing, Gives, GivesIn, IsRefused, is_for_meaning, OnFacts};
+    ghost use Rattle.rx_curie.specs.Given.{own_vocabulary, no_facts, is_silent, refers_to_nothing, GivesFacts, GivesIn, IsRefused, is_for_meaning, OnFacts};
     ghost use Rattle.rx_curie.specs.Seen.{facts_seen};
 
     /// What the tag says under these names, which have its own declarations already. The first refusal that holds is
@@ -114,7 +117,7 @@ impl Facts {
         tag: &Tag<'_>,
         names: &NamesView<'_>,
     ) -> Result<Facts, FactsError>
-        ensures line { OnFacts names.now (tag_of tag.now) (Gives result) }
+        ensures line { OnFacts names.now (token_tag (tag_seen tag.now)) (GivesFacts result) }
         ensures relative { is_relative (vocabulary_of (names_seen names.now)) ≡ true
             → IsErrOf result (FactsError.Meaning Kind.RelativeVocab) }
         ensures absolute { OnOk result (is_relative (vocabulary_of (names_seen names.now)) ≡ false) }
@@ -162,7 +165,7 @@ impl Facts {
         tag: &Tag<'_>,
         names: &NamesView<'_>,
     ) -> Result<(), FactsError>
-        ensures line { OnFacts names.now (tag_of tag.now) (GivesIn result self.new) }
+        ensures line { OnFacts names.now (token_tag (tag_seen tag.now)) (GivesIn result self.new) }
         ensures relative { is_relative (vocabulary_of (names_seen names.now)) ≡ true
             → IsErrOf result (FactsError.Meaning Kind.RelativeVocab) }
         ensures absolute { OnOk result (is_relative (vocabulary_of (names_seen names.now)) ≡ false) }
@@ -278,7 +281,7 @@ impl Facts {
 
 /// Which of the elements it is that the rules name.
 fn kind_of(name: &str) -> ElementKind
-    ensures { kind_seen result ≡ the.kind_of (chars name.now) }
+    ensures { element_seen result ≡ the.kind_of (chars name.now) }
 {
     if is_word(name, "head") {
         return ElementKind::Head;

@@ -6,7 +6,7 @@
 //! An [`IriMaker`] makes the IRIs of a page's tags, and shares those that it made lately.
 #![tactic(auto)]
 
-ghost use Rattle.rx_curie.specs.Seen.{SeenOneToOne};
+ghost use Rattle.rx_curie.specs.Seen.{FactsOneToOne};
 
 mod comparisons;
 mod facts;
@@ -33,5 +33,5 @@ pub use rx_grammar::Kind;
 
 /// Facts that are seen as the same facts of the rules are the same.
 pub fn seen_one_to_one()
-    ensures { SeenOneToOne }
+    ensures { FactsOneToOne }
 {}

@@ -40,7 +40,7 @@ pub(crate) fn put_datatype(
 }
 
 fn datatype_of(iri: Option<Iri>) -> Datatype
-    ensures { datatype_seen result ≡ the.datatype_of iri }
+    ensures { datatype_seen result ≡ the.attribute_datatype iri }
 {
     match iri {
         Some(iri) => {

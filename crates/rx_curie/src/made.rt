@@ -1,7 +1,7 @@
 //! What readings make: IRIs and resources.
 ghost use Rattle.std.specs.Prelude.{◌≡◌, true, IfOk};
 ghost use Rattle.rx_rdfa.specs.Facts as the;
-ghost use Rattle.rx_curie.specs.Absolute.{is_absolute, is_named};
+ghost use Rattle.rx_curie.specs.Absolute.{is_absolute, reads_as_node};
 ghost use Rattle.rx_curie.specs.Nodes.{is_node};
 ghost use Rattle.rx_curie.specs.Seen.{reading_seen, ref_seen};
 
@@ -33,7 +33,7 @@ pub(crate) fn iri_of(maker: &mut IriMaker, reading: Reading<'_>) -> Result<Optio
 pub(crate) fn ref_of(maker: &mut IriMaker, reading: Reading<'_>) -> Result<Ref, NoMemory>
     requires { is_absolute (reading_seen reading) ≡ true }
     ensures resource { IfOk result (λ made. ref_seen made ≡ the.ref_of (reading_seen reading.entry)) }
-    ensures node { IfOk result (λ made. is_node made ≡ is_named (reading_seen reading.entry)) }
+    ensures node { IfOk result (λ made. is_node made ≡ reads_as_node (reading_seen reading.entry)) }
 {
     match reading {
         Reading::Full(iri) => {

@@ -18,13 +18,13 @@ pub struct TypeList {
 impl Model for TypeList {
     ghost use Rattle.std.specs.Prelude.{List};
     ghost use Rattle.rx_curie.specs.declared.refs.Ref.{Ref};
-    ghost use Rattle.rx_curie.specs.Nodes.{first_with, IsFilled};
+    ghost use Rattle.rx_curie.specs.Nodes.{HoldsNodes, nodes_with_first};
 
     ghost Value = { List Ref };
 
-    ghost view = { λ list. first_with list.first list.others.items };
+    ghost view = { λ list. nodes_with_first list.first list.others.items };
 
-    ghost invariant = { λ list. IsFilled list.first list.others.items };
+    ghost invariant = { λ list. HoldsNodes list.first list.others.items };
 }
 
 impl TypeList {

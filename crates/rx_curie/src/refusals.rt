@@ -4,8 +4,8 @@ ghost use Rattle.rx_rdfa.specs.Common.{list_all, chars, is_ascii, seen_slice, is
 ghost use Rattle.rx_rdfa.specs.Facts as the;
 ghost use Rattle.rx_names.specs.Lines.{vocabulary_of};
 ghost use Rattle.rx_names.specs.Views.{names_seen, Along};
-ghost use Rattle.rx_curie.specs.Given.{own_vocabulary, kind_of, OnFacts};
-ghost use Rattle.rx_curie.specs.Refusing.{is_iri, is_uncleaned, markup, markup_of, kind_or_none};
+ghost use Rattle.rx_curie.specs.Given.{own_vocabulary, kind_of_refusal, OnFacts};
+ghost use Rattle.rx_curie.specs.Refusing.{is_that_iri, is_uncleaned, markup, markup_of, kind_or_none};
 ghost use Rattle.rx_curie.specs.Seen.{reading_seen};
 
 use crate::comparisons::are_text;
@@ -21,7 +21,7 @@ use rx_words::trim;
 /// `HtmlLiteral` where that is rdf:HTML. No memory is taken.
 #[inline]
 pub fn refusal_below(attributes: &Attributes<'_>, names: &NamesView<'_>) -> Option<Kind>
-    ensures line { OnFacts names.now attributes.now (λ facts. result ≡ option_map kind_of (refusal facts)) }
+    ensures line { OnFacts names.now attributes.now (λ facts. result ≡ option_map kind_of_refusal (refusal facts)) }
     ensures own { result ≡ None → is_relative (own_vocabulary attributes.now) ≡ false }
     ensures kinds { kind_or_none result ≡ true }
 {
@@ -37,7 +37,7 @@ pub fn refusal_below(attributes: &Attributes<'_>, names: &NamesView<'_>) -> Opti
 /// The same wherever the tag stands: where an element around declares the vocabulary in force, and that has no scheme, the
 /// answer is `RelativeVocab`, too.
 pub(crate) fn refusal_by(attributes: &Attributes<'_>, names: &NamesView<'_>) -> Option<Kind>
-    ensures line { OnFacts names.now attributes.now (λ facts. result ≡ option_map kind_of (refusal facts)) }
+    ensures line { OnFacts names.now attributes.now (λ facts. result ≡ option_map kind_of_refusal (refusal facts)) }
     ensures relative { is_relative (vocabulary_of (names_seen names.now)) ≡ true → result ≡ Some Kind.RelativeVocab }
     ensures own { result ≡ None → is_relative (own_vocabulary attributes.now) ≡ false }
     ensures absolute { result ≡ None → is_relative (vocabulary_of (names_seen names.now)) ≡ false }
@@ -51,7 +51,7 @@ pub(crate) fn refusal_by(attributes: &Attributes<'_>, names: &NamesView<'_>) -> 
 
 /// The kind of markup that a literal with this attribute `datatype` is, if it is any.
 fn markup_of(names: &NamesView<'_>, value: Option<&str>) -> Option<Kind>
-    ensures line { Along names.now (λ context line. result ≡ option_map kind_of (markup_of context line (seen_slice value.entry))) }
+    ensures line { Along names.now (λ context line. result ≡ option_map kind_of_refusal (markup_of context line (seen_slice value.entry))) }
     ensures kinds { kind_or_none result ≡ true }
 {
     let Some(value) = value else {
@@ -65,7 +65,7 @@ fn markup_of(names: &NamesView<'_>, value: Option<&str>) -> Option<Kind>
 
 /// The kind of markup that the reading names as a datatype, if it is any.
 fn markup(datatype: Reading<'_>) -> Option<Kind>
-    ensures value { result ≡ option_map kind_of (markup (the.iri_of (reading_seen datatype.entry))) }
+    ensures value { result ≡ option_map kind_of_refusal (markup (the.iri_of (reading_seen datatype.entry))) }
     ensures kinds { kind_or_none result ≡ true }
 {
     if makes(
@@ -84,7 +84,7 @@ fn markup(datatype: Reading<'_>) -> Option<Kind>
 fn makes(reading: Reading<'_>, iri: &str) -> bool
     requires ascii { list_all is_ascii iri.now ≡ true }
     requires clean { list_all is_uncleaned iri.now ≡ true }
-    ensures { result ≡ is_iri (the.iri_of (reading_seen reading.entry)) iri.now }
+    ensures { result ≡ is_that_iri (the.iri_of (reading_seen reading.entry)) iri.now }
 {
     match reading {
         Reading::Full(whole) => is_word(whole, iri),

@@ -1,5 +1,5 @@
 -- The calls decide an evaluator's state, but for how the rules for texts are written.
-use Rattle.rx_eval.proofs.Common.{◌≡◌, ◌∙◌, ℕ, ◌==◌, Bool, true, List, [], ◌∷◌, ◌++◌, length, Option, Some, None, refl, sym, ap, subst, subst₂, is_some, and_parts, IfSome, if◌then◌else◌, encode_utf8_all, Chars, Naming, model, Facts, Resources, rule, value_now, Call, after, begun, SlotId, Numbered, moment, level_at, resources_by, start_at, below_at, own_at, below_own_at, places_at, lists_at, drawn_after, fill_all, Text, Frame, State, Gathers, Opens, read_text, Ending, ending, end_owner, end_frame, said_triples, TextAt, Closes, Numbering, Layer, frames_in, LayersStand, Phase, EvaluatorStands, inr, false, gathers_at, handed_on}
+use Rattle.rx_eval.proofs.Common.{◌≡◌, ◌∙◌, ℕ, ◌==◌, Bool, true, List, [], ◌∷◌, ◌++◌, length, Option, Some, None, refl, sym, ap, subst, subst₂, is_some, and_parts, IfSome, if◌then◌else◌, encode_utf8_all, Chars, Naming, model, Facts, Resources, rule, value_now, Call, after, machine_begun, SlotId, Numbered, moment, level_at, resources_by, start_at, below_at, own_at, below_own_at, places_at, lists_at, drawn_after, fill_all, Text, Frame, State, Gathers, Opens, read_text, Ending, ending, end_owner, end_frame, said_triples, TextAt, Closes, Numbering, Layer, frames_in, LayersStand, RunsOrIsOver, EvaluatorStands, inr, false, gathers_at, handed_on}
 use Rattle.rx_model.proofs.Copied.{of_none}
 use Rattle.rx_eval.proofs.LeavesLemmas.{Alike, alike_same, alike_ruled, AllAlike, alike_push, alike_pop, alike_frames, phase_as}
 use Rattle.rx_eval.proofs.EndLemmas.{text_at, not_empty}
@@ -120,16 +120,16 @@ module _ (a b : State) (s : Same a b) where
             let k = text_at a.kept l.text l.frame.text h.0.marked in
             same k.0 l.text (subst (λ (f : Frame). TextAt f.text a.kept k.0 l.text) (sym (same_from_push x.frames (frames_in lower) c.frame l.frame (sym c.popped ∙ q)).1) k.1)
 
-        by : (b : Bool) → Phase b to (after model a.base list begun) a → Same x y
+        by : (b : Bool) → RunsOrIsOver b to (after model a.base list machine_begun) a → Same x y
         by true p = absurd (not_empty x.frames c.frame (sym c.popped ∙ p.frames))
         by false p = layers p.layers p.by.frames p.by.each
 
     -- what one stands for the other does
     pub stands_same : EvaluatorStands to list b
     stands_same =
-        let m = after model a.base list begun in
+        let m = after model a.base list machine_begun in
         subst (EvaluatorStands to list) s.rest (record {
           page = e.page;
-          phase = subst (λ (t : List Chars). Phase a.ended to (record m { texts = t }) (record a { frames = b.frames })) (map-id m.texts)
+          phase = subst (λ (t : List Chars). RunsOrIsOver a.ended to (record m { texts = t }) (record a { frames = b.frames })) (map-id m.texts)
               (phase_as to m a a.kept (λ t. t) b.frames s.frames (inr (λ mark text k. k)) a.ended e.phase);
         })

@@ -1,6 +1,6 @@
 -- The start of an element.
 use Rattle.rx_eval.proofs.EnterLemmas.{below_as}
-use Rattle.rx_eval.proofs.Common.{IfSome, is_some, if◌then◌else◌, encode_utf8_all, map-append, filter-append, Chars, by_test, IfSome_then, Among, Term, Triple, same_node, rename_node, rename_term, rename, spo, Among_left, Among_right, Among_map, Path, Naming, Bnode, Author, Made, Cell, Owner, First, Of, Below, same_owner, same_bnode, model, Facts, Inherited, Standing, Resources, resources, listed, handed, own_owner, object_below, rule, value_now, value_of_text, start_of, end_of, text_value, properties_by, Entry, map_entry, entry, linked, touched, awaited, entries_by, of_owner, rename_slot, rename_inherited, labels, exact_bnodes, ◌≡◌, ◌∙◌, ℕ, suc, ◌+◌, ◌≤◌, ◌^◌, ◌⊎◌, inl, inr, Bool, true, false, List, [], ◌∷◌, ◌++◌, map, filter_map, length, Option, Some, None, is_none, nat_eq, refl, sym, ap, ap₂, subst, subst₂, arith, append-nil, length-append, not, ◌&&◌, unwrap_or, Slot, Full, fill, fill_slot, slot_of, rule_at, value_at, inherit, Machine, enter, SlotId, Numbered, number_of, moment, level_at, standing_by, text_literal, Owning, put_entries, places_for, fill_all, Text, Frame, State, Gathers, next_number, owner_begun, places_at, drawn_after, handed_on, Opens, said_triples, Numbering, Name, Number, name_by, named, Grown, with_number, Numbers, Slots, Open, owner_place, waits, HasPlaces, Waiter, Fills, FillUp, Apart, Within, WithinPlaces, WithinOption, Layer, frames_in, path_in, paths_in, own_in, under_in, open_in, places_of, waiter_of, said_of, KeptAt, LayerStands, LayersStand, Coming, Pending, owner_depth, WaitsFor, RunsBy, page_context, AllItems, ItemWaits}
+use Rattle.rx_eval.proofs.Common.{IfSome, is_some, if◌then◌else◌, encode_utf8_all, map-append, filter-append, Chars, by_test, IfSome_then, Among, Term, Triple, same_node, rename_node, rename_term, rename, spo, Among_left, Among_right, Among_map, Path, Naming, Bnode, Author, Made, Cell, Owner, First, Of, Below, same_owner, same_bnode, model, Facts, Inherited, Standing, Resources, resources, listed, handed, own_owner, object_below, rule, value_now, value_of_text, start_of, end_of, text_value, properties_by, ListEntry, map_entry, entry, linked, touched, awaited, entries_by, of_owner, rename_slot, rename_inherited, labels, exact_bnodes, ◌≡◌, ◌∙◌, ℕ, suc, ◌+◌, ◌≤◌, ◌^◌, ◌⊎◌, inl, inr, Bool, true, false, List, [], ◌∷◌, ◌++◌, map, filter_map, length, Option, Some, None, is_none, nat_eq, refl, sym, ap, ap₂, subst, subst₂, arith, append-nil, length-append, not, ◌&&◌, unwrap_or, Slot, Full, fill, fill_slot, slot_of, rule_at, value_at, inherit, Machine, enter, SlotId, Numbered, label_number, moment, level_at, standing_by, text_literal, Owning, put_entries, places_for, fill_all, Text, Frame, State, Gathers, next_number, owner_begun, places_at, drawn_after, handed_on, Opens, said_triples, Numbering, Name, Number, name_by, numbered_name, KeepsNumbers, with_number, Numbers, OwnedSlots, OpenOwners, owner_place, is_awaited, HasPlaces, Waiter, FillsAtEnd, FillUp, OwnersDiffer, Within, WithinPlaces, WithinOption, Layer, frames_in, path_in, paths_in, own_in, under_in, open_in, text_places, waiter_of, text_triples, KeptAt, LayerStands, LayersStand, Coming, OwnerPending, owner_depth, WaitsFor, RunsBy, page_context, AllItems, ItemWaits}
 use Rattle.rx_rdfa.specs.Machine.{reserved}
 use Rattle.rx_eval.proofs.DrawLemmas.{draw_most}
 use Rattle.rx_eval.proofs.NameLemmas.{grown_same, grown_then, triples_later, slots_later, inherited_later, same_names}
@@ -25,12 +25,12 @@ path_length : (to : Numbering) (base kept : Chars) (layers : List Layer) → Lay
 path_length to base kept [] h = refl
 path_length to base kept (l ∷ lower) h = h.0.deep
 
-none_waits : (path : Path) (ls : List Layer) (ys : Slots) → ((q : Path) → Among (paths_in ls) q → ¬ (q ≡ path)) → Only path ys → NoneWaits (map waiter_of ls) ys
+none_waits : (path : Path) (ls : List Layer) (ys : OwnedSlots) → ((q : Path) → Among (paths_in ls) q → ¬ (q ≡ path)) → Only path ys → NoneWaits (map waiter_of ls) ys
 none_waits path [] ys n h = tt
 none_waits path (l ∷ ls) ys n h =
     (none_waiting l.at.path ys (waits_weaker (λ o q. q ≡ path) (λ o q. ¬ (q ≡ l.at.path)) (λ o q e k. n l.at.path (inl refl) (sym k ∙ e)) ys h), none_waits path ls ys (λ q a. n q (inr a)) h)
 
-none_of : (o : Owner) (ys : Slots) → ((y : Entry Owner (Slot ℕ)) → Among ys y → same_owner y.owner o ≡ false) → of_owner same_owner o ys ≡ []
+none_of : (o : Owner) (ys : OwnedSlots) → ((y : ListEntry Owner (Slot ℕ)) → Among ys y → same_owner y.owner o ≡ false) → of_owner same_owner o ys ≡ []
 none_of o [] h = refl
 none_of o (y ∷ ys) h = rw (h y (inl refl)) (none_of o ys (λ z a. h z (inr a)))
 
@@ -54,7 +54,7 @@ gathering _ _ _ g = absurd (cc)
 
 record NumbersNow (old : Numbering) (labels : Numbered) (drawn cells fresh : ℕ) (path : Path) (makes : Bool) : Type 0 where
   now : Numbering
-  grown : Grown old now
+  grown : KeepsNumbers old now
   numbers : Numbers now labels drawn cells
   new : makes ≡ true → now (Made path) ≡ Some fresh
   made : (q : Path) → ¬ (q ≡ path) → now (Made q) ≡ old (Made q)
@@ -82,7 +82,7 @@ numbers_now old labels drawn cells fresh path false h free e a b room = record {
 
 -- ---- the element
 
-module _ (to : Numbering) (m : Machine Bnode Owner) (state : State) (facts : Facts) (new : State) (layers : List Layer) (slots : Slots) (r : RunsBy to m state layers slots) (o : Opens state facts new)
+module _ (to : Numbering) (m : Machine Bnode Owner) (state : State) (facts : Facts) (new : State) (layers : List Layer) (slots : OwnedSlots) (r : RunsBy to m state layers slots) (o : Opens state facts new)
     (page : state.page ≡ page_context state.base) (room : state.drawn + 1 + length (labels facts) ≤ 2 ^ 61) where
   abbrev base : Chars
   base = state.base
@@ -117,10 +117,10 @@ module _ (to : Numbering) (m : Machine Bnode Owner) (state : State) (facts : Fac
   abbrev layer : Layer
   layer = record { at = at; text = []; frame = o.frame }
 
-  abbrev before : Open
+  abbrev before : OpenOwners
   before = open_in base layers
 
-  abbrev opened : Open
+  abbrev opened : OpenOwners
   opened = open_in base (layer ∷ layers)
 
   depth_is : depth ≡ length layers
@@ -164,7 +164,7 @@ module _ (to : Numbering) (m : Machine Bnode Owner) (state : State) (facts : Fac
   abbrev now : Numbering
   now = numbering.now
 
-  grown_now : Grown to now
+  grown_now : KeepsNumbers to now
   grown_now = grown_then to drawn_labels.now now drawn_labels.grown numbering.grown
 
   -- ---- owners
@@ -192,25 +192,25 @@ module _ (to : Numbering) (m : Machine Bnode Owner) (state : State) (facts : Fac
   under_placed : owner_place opened (Below path) ≡ o.frame.below
   under_placed = place_back (before ++ own_in layer) (under_in layer) (Below path) under_none_before ∙ begun_place o.frame.below (Below path) o.frame.context.object (length (before ++ own_in layer)) under_count
 
-  apart_now : Apart opened
+  apart_now : OwnersDiffer opened
   apart_now = apart_begun (before ++ own_in layer) o.frame.below (Below path) o.frame.context.object
       (apart_begun before o.frame.own (Of path) o.frame.context.subject (apart_open base to state.kept layers r.each) (deep_none (Of path) refl)) under_none_before
 
-  grown_owners : Grown (owner_place before) (owner_place opened)
+  grown_owners : KeepsNumbers (owner_place before) (owner_place opened)
   grown_owners = grown_then (owner_place before) (owner_place (before ++ own_in layer)) (owner_place opened) (grown_open before (own_in layer)) (grown_open (before ++ own_in layer) (under_in layer))
 
   -- ---- the element by names and by numbers
 
-  author_is : (l : Chars) → Among (labels facts) l → named now (Author l) ≡ Number (unwrap_or (number_of new.labels l) 0)
+  author_is : (l : Chars) → Among (labels facts) l → numbered_name now (Author l) ≡ Number (unwrap_or (label_number new.labels l) 0)
   author_is l a =
       let k = drawn_labels.has l a in
       let e = numbering.grown.keeps (Author l) k.0 k.1 in
       ap (name_by (Author l)) e ∙ ap (λ (x : Option ℕ). Number (unwrap_or x 0)) (sym (sym (numbering.numbers.label l) ∙ e))
 
-  seen_is : rename_inherited Number Number seen ≡ rename_inherited (named now) (named (owner_place opened)) around
+  seen_is : rename_inherited Number Number seen ≡ rename_inherited (numbered_name now) (numbered_name (owner_place opened)) around
   seen_is = inherited_later to now grown_now (owner_place before) (owner_place opened) grown_owners seen around
       (ap₂ (λ (p : Inherited ℕ ℕ) (f : List Frame). rename_inherited Number Number (handed_on p f)) page r.frames ∙ handed_now to base state.kept layers r.each
-      ∙ ap (λ (s : List (Standing Bnode Owner)). rename_inherited (named to) (named (owner_place before)) (inherit model base s)) (sym r.standings))
+      ∙ ap (λ (s : List (Standing Bnode Owner)). rename_inherited (numbered_name to) (numbered_name (owner_place before)) (inherit model base s)) (sym r.standings))
 
   meets : Meets facts base depth path now (owner_place opened) new.labels o.fresh n around seen
   meets = record {
@@ -231,10 +231,10 @@ module _ (to : Numbering) (m : Machine Bnode Owner) (state : State) (facts : Fac
   abbrev xs : Puts
   xs = entries_by moments Some v at_n here
 
-  merged_now : Merged (owner_place opened) (named now) xs (reserved model base at)
-  merged_now = merged (owner_place opened) (named now) xs (reserved model base at) (entries_meet facts base depth path now (owner_place opened) new.labels o.fresh n around seen meets)
+  merged_now : Merged (owner_place opened) (numbered_name now) xs (reserved model base at)
+  merged_now = merged (owner_place opened) (numbered_name now) xs (reserved model base at) (entries_meet facts base depth path now (owner_place opened) new.labels o.fresh n around seen meets)
 
-  abbrev ys : Slots
+  abbrev ys : OwnedSlots
   ys = merged_now.slots
 
   only_names : Only path (reserved model base at)
@@ -242,7 +242,7 @@ module _ (to : Numbering) (m : Machine Bnode Owner) (state : State) (facts : Fac
   only_names = entries_all model Full (slot_of path (value_now (rule_at model base at) facts)) at (resources model base at) (ItemWaits (λ r. r ≡ path)) tt (λ t. tt) (λ s b p a. only_of path (value_now (rule_at model base at) facts))
 
   only_ys : Only path ys
-  only_ys = renamed_wait Number (named now) (λ r. r ≡ path) ys (reserved model base at) merged_now.renamed only_names
+  only_ys = renamed_wait Number (numbered_name now) (λ r. r ≡ path) ys (reserved model base at) merged_now.renamed only_names
 
   abbrev owners2 : List (Option Owning)
   owners2 = with_owner o.frame.below o.frame.context.object (with_owner o.frame.own o.frame.context.subject state.owners)
@@ -269,10 +269,10 @@ module _ (to : Numbering) (m : Machine Bnode Owner) (state : State) (facts : Fac
       (with_fill_up before o.frame.own (Of path) o.frame.context.subject waiters state.owners slots (r.unbegun (Of path) (inl (next_coming m.path m.next)) (deep_none (Of path) refl))
       (within_now n (omega (arith, owners_count))) r.tables)
 
-  tables_after : (puts : Puts) (more : Slots) → Match (owner_place opened) puts more → Only path more → FillUp opened waiters (put_entries puts owners2) (slots ++ more)
+  tables_after : (puts : Puts) (more : OwnedSlots) → Match (owner_place opened) puts more → Only path more → FillUp opened waiters (put_entries puts owners2) (slots ++ more)
   tables_after puts more k h = put_fill_up opened apart_now puts more k waiters (none_waits path layers more other_path h) owners2 slots begun_tables
 
-  quiet : waits path slots ≡ false
+  quiet : is_awaited path slots ≡ false
   quiet = none_waiting path slots (waits_weaker (WaitsFor (paths_in layers)) (λ o q. ¬ (q ≡ path)) (λ o q h. other_path q h.0) slots r.waiting)
 
   -- ---- the places of its text
@@ -300,9 +300,9 @@ module _ (to : Numbering) (m : Machine Bnode Owner) (state : State) (facts : Fac
       (begun_now moments at_n here n (next_number at_n here n) state.owners o.frame.own o.frame.below o.frame.context o.own o.below_own context_is s)
 
   abbrev Fill : Option Text → Type 0
-  Fill t = Fills path (places_of t) (λ os ss. FillUp opened waiters os ss) (put_entries xs owners2) (slots ++ ys) × WithinOption (length opened) (places_of t)
+  Fill t = FillsAtEnd path (text_places t) (λ os ss. FillUp opened waiters os ss) (put_entries xs owners2) (slots ++ ys) × WithinOption (length opened) (text_places t)
 
-  no_value : (facts.inlist ≡ true → (p : Chars) → Among (listed facts.property) p → here.skipped ≡ false → Filled (Some v)) → waits path (slots ++ ys) ≡ false
+  no_value : (facts.inlist ≡ true → (p : Chars) → Among (listed facts.property) p → here.skipped ≡ false → Filled (Some v)) → is_awaited path (slots ++ ys) ≡ false
   no_value k = waits_both path slots ys quiet (match_quiet (owner_place opened) path xs ys merged_now.match (entries_all moments Some v at_n here Filled tt (λ t. tt) (λ s b p a. k b p a s)))
 
   filled_front : AllItems (λ o. Filled) front
@@ -322,8 +322,8 @@ module _ (to : Numbering) (m : Machine Bnode Owner) (state : State) (facts : Fac
               let filled : fill_all t.slots u (put_entries xs owners2) ≡ put_entries (map (valued_entry u) xs) owners2 =
               ap₂ (λ (p : List SlotId) (l : Puts). fill_all p u (put_entries l owners2)) q parts ∙ places_filled_in owner_here (listed facts.property) front back owners2 u
               ∙ ap (λ (l : Puts). put_entries l owners2) (sym (valued_parts u owner_here (listed facts.property) front back filled_front filled_back) ∙ ap (map (valued_entry u)) (sym parts)) in
-              subst₂ (λ (os : List (Option Owning)) (ss : Slots). FillUp opened waiters os ss) (sym filled)
-              (sym (map-append (map_entry (fill_slot path u)) slots ys ∙ ap (λ (l : Slots). l ++ fill path u ys) (fill_quiet path u slots quiet)))
+              subst₂ (λ (os : List (Option Owning)) (ss : OwnedSlots). FillUp opened waiters os ss) (sym filled)
+              (sym (map-append (map_entry (fill_slot path u)) slots ys ∙ ap (λ (l : OwnedSlots). l ++ fill path u ys) (fill_quiet path u slots quiet)))
               (tables_after (map (valued_entry u) xs) (fill path u ys) (match_valued (owner_place opened) path u xs ys merged_now.match only_ys) (waits_weaker (λ o q. (q ≡ path) × ¬ (q ≡ path)) (λ o q. q ≡ path) (λ o q h. h.0) (fill path u ys) (filled_wait (λ o q. q ≡ path) path u ys only_ys))),
         ),
         subst (WithinPlaces (length opened)) (sym q) (places_within (length opened) owner_here (listed facts.property) (put_entries front owners2)
@@ -337,7 +337,7 @@ module _ (to : Numbering) (m : Machine Bnode Owner) (state : State) (facts : Fac
       let still = no_value (λ c. absurd (cc (b, c))) in (
         (
           subst (λ (p : List SlotId). HasPlaces p (put_entries xs owners2)) (sym q) tt,
-          λ u. subst₂ (λ (os : List (Option Owning)) (ss : Slots). FillUp opened waiters os ss) (sym (ap (λ (p : List SlotId). fill_all p u (put_entries xs owners2)) q)) (sym (fill_quiet path u (slots ++ ys) still)) (tables_after xs ys merged_now.match only_ys),
+          λ u. subst₂ (λ (os : List (Option Owning)) (ss : OwnedSlots). FillUp opened waiters os ss) (sym (ap (λ (p : List SlotId). fill_all p u (put_entries xs owners2)) q)) (sym (fill_quiet path u (slots ++ ys) still)) (tables_after xs ys merged_now.match only_ys),
         ),
         subst (WithinPlaces (length opened)) (sym q) tt,
       )
@@ -373,16 +373,16 @@ module _ (to : Numbering) (m : Machine Bnode Owner) (state : State) (facts : Fac
       listed_or = by_test facts.inlist (λ t. rw t refl) (λ f. rw f refl)
 
   said_by : (t : Option Text) (chars : Chars) → is_some t ≡ gathered → IfSome t Told
-      → said_of t chars ≡ (if here.skipped then [] else properties_by moments base at_n here (text_value v (value_of_text (rule moments base facts here) facts chars)))
+      → text_triples t chars ≡ (if here.skipped then [] else properties_by moments base at_n here (text_value v (value_of_text (rule moments base facts here) facts chars)))
   said_by None chars e g = said_none here.skipped facts.property v chars refl e
   said_by (Some t) chars e g = let k = gathering here.skipped facts.property v e in said_some t chars k.0 k.1 g
 
-  said_now : (chars : Chars) → map (rename Number) (said_of o.frame.text chars) ≡ map (rename (named now)) (end_of model base at chars)
+  said_now : (chars : Chars) → map (rename Number) (text_triples o.frame.text chars) ≡ map (rename (numbered_name now)) (end_of model base at chars)
   said_now chars =
       ap (map (rename Number)) (said_by o.frame.text chars o.gathers o.text ∙ sym (ends_are (moment new.labels o.fresh 0 0) base at_n chars))
       ∙ sym (end_meets facts base depth path now (owner_place opened) new.labels o.fresh n around seen meets chars)
 
-  value_by : (t : Option Text) → is_some t ≡ gathered → IfSome t Told → IfSome t (λ t. (chars : Chars) → rename_term Number (text_literal t.by chars) ≡ rename_term (named now) (value_at model base at chars))
+  value_by : (t : Option Text) → is_some t ≡ gathered → IfSome t Told → IfSome t (λ t. (chars : Chars) → rename_term Number (text_literal t.by chars) ≡ rename_term (numbered_name now) (value_at model base at chars))
   value_by None e g = tt
   value_by (Some t) e g =
       let k = gathering here.skipped facts.property v e in
@@ -396,7 +396,7 @@ module _ (to : Numbering) (m : Machine Bnode Owner) (state : State) (facts : Fac
 
   -- ---- the layer
 
-  subject_by : (s : Bool) → here.skipped ≡ s → (own : Option ℕ) → own ≡ (if s then None else owner_begun here.subject seen.object n) → IfSome own (λ k. rename_node Number o.frame.context.subject ≡ rename_node (named now) (resources model base at).subject)
+  subject_by : (s : Bool) → here.skipped ≡ s → (own : Option ℕ) → own ≡ (if s then None else owner_begun here.subject seen.object n) → IfSome own (λ k. rename_node Number o.frame.context.subject ≡ rename_node (numbered_name now) (resources model base at).subject)
   subject_by true e None q = tt
   subject_by true e (Some k) q = absurd (cc q)
   subject_by false e None q = tt
@@ -432,14 +432,14 @@ module _ (to : Numbering) (m : Machine Bnode Owner) (state : State) (facts : Fac
   pending_at q (inr (inl e)) = inl (subst (Coming m.path m.next) e (next_coming m.path m.next))
   pending_at q (inr (inr a)) = inr a
 
-  pending_before : (w : Owner) → Pending (layer ∷ layers) path 0 w → Pending layers m.path m.next w
+  pending_before : (w : Owner) → OwnerPending (layer ∷ layers) path 0 w → OwnerPending layers m.path m.next w
   pending_before First h = tt
   pending_before (Of q) h = pending_at q h
   pending_before (Below q) h = pending_at q h
 
-  unbegun_now : (w : Owner) → Pending (layer ∷ layers) path 0 w → owner_place opened w ≡ None → of_owner same_owner w (slots ++ ys) ≡ []
+  unbegun_now : (w : Owner) → OwnerPending (layer ∷ layers) path 0 w → owner_place opened w ≡ None → of_owner same_owner w (slots ++ ys) ≡ []
   unbegun_now w h e =
-      filter-append (λ (x : Entry Owner (Slot ℕ)). same_owner x.owner w) slots ys
+      filter-append (λ (x : ListEntry Owner (Slot ℕ)). same_owner x.owner w) slots ys
       ∙ ap₂ ◌++◌ (r.unbegun w (pending_before w h) (none_before before (own_in layer) w (none_before (before ++ own_in layer) (under_in layer) w e)))
       (none_of w ys (match_none opened w e xs ys merged_now.match))
 
@@ -461,16 +461,16 @@ module _ (to : Numbering) (m : Machine Bnode Owner) (state : State) (facts : Fac
     out = sym o.start i;
   }
 
-  started_is : map (rename Number) (state.out ++ started) ≡ map (rename (named now)) (m.out ++ start_of model base at)
+  started_is : map (rename Number) (state.out ++ started) ≡ map (rename (numbered_name now)) (m.out ++ start_of model base at)
   started_is =
       map-append (rename Number) state.out started
       ∙ ap₂ ◌++◌ (triples_later to now grown_now state.out m.out r.out) (sym (start_meets facts base depth path now (owner_place opened) new.labels o.fresh n around seen meets))
-      ∙ sym (map-append (rename (named now)) m.out (start_of model base at))
+      ∙ sym (map-append (rename (numbered_name now)) m.out (start_of model base at))
 
-  slots_are : map (map_entry (rename_slot Number)) (slots ++ ys) ≡ map (map_entry (rename_slot (named now))) (m.slots ++ reserved model base at)
+  slots_are : map (map_entry (rename_slot Number)) (slots ++ ys) ≡ map (map_entry (rename_slot (numbered_name now))) (m.slots ++ reserved model base at)
   slots_are =
       map-append (map_entry (rename_slot Number)) slots ys ∙ ap₂ ◌++◌ (slots_later to now grown_now slots m.slots r.by_names) merged_now.renamed
-      ∙ sym (map-append (map_entry (rename_slot (named now))) m.slots (reserved model base at))
+      ∙ sym (map-append (map_entry (rename_slot (numbered_name now))) m.slots (reserved model base at))
 
   runs_now : RunsBy now (enter model base facts m) state_now (layer ∷ layers) (slots ++ ys)
   runs_now = record {
@@ -494,9 +494,9 @@ module _ (to : Numbering) (m : Machine Bnode Owner) (state : State) (facts : Fac
   -- the state after the start tag is the machine's, under the numbering that has grown
   pub record Entered : Type 0 where
     pub numbers : Numbering
-    pub grown : Grown to numbers
+    pub grown : KeepsNumbers to numbers
     pub layers_after : List Layer
-    pub slots_after : Slots
+    pub slots_after : OwnedSlots
     pub runs : RunsBy numbers (enter model state.base facts m) new layers_after slots_after
 
   pub entered_runs : Entered

@@ -1,5 +1,5 @@
 -- The lists of an owner at its end: their cells draw numbers, and the triples are the rules'.
-use Rattle.rx_eval.proofs.Common.{cons_option, settled_item, settled_with, if◌then◌else◌, nat_lt, filter_map-append, nat_tests, Chars, by_test, Among, distinct, Node, Blank, Term, rename_node, rename_term, rename, spo, Among_of_filter, false_unless, exact_texts, rdf_first, rdf_rest, Bnode, Author, Made, Cell, Owner, same_owner, model, to_node, Slot, Full, Waiting, settle, rename_slot, exact_owners, term_then, ◌≡◌, ◌∙◌, ℕ, suc, ◌+◌, ◌<◌, ◌≤◌, ◌^◌, ◌⊎◌, inl, inr, Bool, true, false, cond, List, [], ◌∷◌, ◌++◌, map, filter, flat_map, filter_map, length, Option, Some, None, option_map, option_to_list, bytes_eq, refl, sym, ap, ap₂, subst, arith, true≢false, not, unwrap_or, Entry, map_entry, of_owner, lists, items, cell_or_nil, chain, list_of, Table, put, table_from, table_of, itself, Numbered, Numbering, Name, Number, name_by, named, Grown, Numbers, Slots, item_of, table_in, AllWait, ItemWaits}
+use Rattle.rx_eval.proofs.Common.{cons_option, settled_item, settled_with, if◌then◌else◌, nat_lt, filter_map-append, nat_tests, Chars, by_test, Among, distinct, Node, Blank, Term, rename_node, rename_term, rename, spo, Among_of_filter, false_unless, exact_texts, rdf_first, rdf_rest, Bnode, Author, Made, Cell, Owner, same_owner, model, to_node, Slot, Full, Waiting, settle, rename_slot, exact_owners, term_then, ◌≡◌, ◌∙◌, ℕ, suc, ◌+◌, ◌<◌, ◌≤◌, ◌^◌, ◌⊎◌, inl, inr, Bool, true, false, cond, List, [], ◌∷◌, ◌++◌, map, filter, flat_map, filter_map, length, Option, Some, None, option_map, option_to_list, bytes_eq, refl, sym, ap, ap₂, subst, arith, true≢false, not, unwrap_or, ListEntry, map_entry, of_owner, lists, items, cell_or_nil, chain, list_of, PredicateTable, put, table_from, table_of, itself, Numbered, Numbering, Name, Number, name_by, numbered_name, KeepsNumbers, Numbers, OwnedSlots, slot_term, table_in, AllWait, ItemWaits}
 use Rattle.rx_rdfa.specs.Lists.{cells_from, cells}
 use Rattle.rx_rdfa.proofs.RenamedLists.{CellsAlike, of_owner_rename, cells_alike, cells_from_rename}
 use Rattle.rx_rdfa.proofs.RenamedMachine.{settle_rename}
@@ -10,14 +10,14 @@ use Rattle.rx_eval.proofs.NameLemmas.{later, entries_later, node_later}
 
 -- ---- slots of which none waits
 
-abbrev pub AllFull : List (Entry Owner (Slot ℕ)) → Type 0
+abbrev pub AllFull : List (ListEntry Owner (Slot ℕ)) → Type 0
 AllFull slots = AllWait (λ owner r. ⊥) slots
 
 abbrev Rows : Type 0
-Rows = Table (Option (Term ℕ))
+Rows = PredicateTable (Option (Term ℕ))
 
 -- without the slots that are empty
-abbrev pub dropped : Rows → Table (Term ℕ)
+abbrev pub dropped : Rows → PredicateTable (Term ℕ)
 dropped rows = map (λ row. (row.0, filter_map itself row.1)) rows
 
 put_dropped : (p : Chars) (item : Option (Term ℕ)) (t : Rows) → dropped (put p (option_map Some item) t) ≡ put p item (dropped t)
@@ -26,23 +26,23 @@ put_dropped p (Some v) [] = refl
 put_dropped p item (row ∷ t) =
     by_test (bytes_eq row.0 p)
     (λ e. rw e (ap (λ (l : List (Term ℕ)). (row.0, l) ∷ dropped t) (filter_map-append itself row.1 (option_to_list (option_map Some item)) ∙ ap (λ (l : List (Term ℕ)). filter_map itself row.1 ++ l) (one item))))
-    (λ e. rw e (ap (λ (l : Table (Term ℕ)). (row.0, filter_map itself row.1) ∷ l) (put_dropped p item t)))
+    (λ e. rw e (ap (λ (l : PredicateTable (Term ℕ)). (row.0, filter_map itself row.1) ∷ l) (put_dropped p item t)))
   where
     one : (item : Option (Term ℕ)) → filter_map itself (option_to_list (option_map Some item)) ≡ option_to_list item
     one None = refl
     one (Some v) = refl
 
-from_dropped : (own : Slots) (t : Rows) → AllFull own → dropped (table_from t (map (map_entry item_of) own)) ≡ table_from (dropped t) (settle own)
+from_dropped : (own : OwnedSlots) (t : Rows) → AllFull own → dropped (table_from t (map (map_entry slot_term) own)) ≡ table_from (dropped t) (settle own)
 from_dropped [] t h = refl
 from_dropped (e ∷ own) t h = go e.item h.0 (λ u. from_dropped own u h.1)
   where
-    go : (item : Option (Slot ℕ)) → ItemWaits (λ r. ⊥) item → ((u : Rows) → dropped (table_from u (map (map_entry item_of) own)) ≡ table_from (dropped u) (settle own))
-        → dropped (table_from t (map (map_entry item_of) (record { owner = e.owner; predicate = e.predicate; item = item } ∷ own))) ≡ table_from (dropped t) (settle (record { owner = e.owner; predicate = e.predicate; item = item } ∷ own))
-    go None f more = more (put e.predicate None t) ∙ ap (λ (u : Table (Term ℕ)). table_from u (settle own)) (put_dropped e.predicate None t)
-    go (Some (Full v)) f more = more (put e.predicate (Some (Some v)) t) ∙ ap (λ (u : Table (Term ℕ)). table_from u (settle own)) (put_dropped e.predicate (Some v) t)
+    go : (item : Option (Slot ℕ)) → ItemWaits (λ r. ⊥) item → ((u : Rows) → dropped (table_from u (map (map_entry slot_term) own)) ≡ table_from (dropped u) (settle own))
+        → dropped (table_from t (map (map_entry slot_term) (record { owner = e.owner; predicate = e.predicate; item = item } ∷ own))) ≡ table_from (dropped t) (settle (record { owner = e.owner; predicate = e.predicate; item = item } ∷ own))
+    go None f more = more (put e.predicate None t) ∙ ap (λ (u : PredicateTable (Term ℕ)). table_from u (settle own)) (put_dropped e.predicate None t)
+    go (Some (Full v)) f more = more (put e.predicate (Some (Some v)) t) ∙ ap (λ (u : PredicateTable (Term ℕ)). table_from u (settle own)) (put_dropped e.predicate (Some v) t)
     go (Some (Waiting r)) f more = absurd f
 
-settled_of : {B : Type 0} (o : Owner) (slots : List (Entry Owner (Slot B))) → settle (of_owner same_owner o slots) ≡ of_owner same_owner o (settle slots)
+settled_of : {B : Type 0} (o : Owner) (slots : List (ListEntry Owner (Slot B))) → settle (of_owner same_owner o slots) ≡ of_owner same_owner o (settle slots)
 settled_of o [] = refl
 settled_of {B} o (e ∷ slots) =
     by_test (same_owner e.owner o) (λ t. rw t (kept t (settled_item e.item) (settled_of o slots))) (λ f. rw f (gone f (settled_item e.item) (settled_of o slots)))
@@ -50,7 +50,7 @@ settled_of {B} o (e ∷ slots) =
     kept : same_owner e.owner o ≡ true → (s : Option (Option (Term B))) → settle (of_owner same_owner o slots) ≡ of_owner same_owner o (settle slots)
         → cons_option (settled_with e s) (settle (of_owner same_owner o slots)) ≡ of_owner same_owner o (cons_option (settled_with e s) (settle slots))
     kept t None ih = ih
-    kept t (Some item) ih = rw t (ap (λ (l : List (Entry Owner (Term B))). record { owner = e.owner; predicate = e.predicate; item = item } ∷ l) ih)
+    kept t (Some item) ih = rw t (ap (λ (l : List (ListEntry Owner (Term B))). record { owner = e.owner; predicate = e.predicate; item = item } ∷ l) ih)
 
     gone : same_owner e.owner o ≡ false → (s : Option (Option (Term B))) → settle (of_owner same_owner o slots) ≡ of_owner same_owner o (settle slots)
         → settle (of_owner same_owner o slots) ≡ of_owner same_owner o (cons_option (settled_with e s) (settle slots))
@@ -58,7 +58,7 @@ settled_of {B} o (e ∷ slots) =
     gone f (Some item) ih = rw f ih
 
 -- the tables of an owner of which no slot waits
-pub table_full : (slots : Slots) (o : Owner) → AllFull (of_owner same_owner o slots) → dropped (table_in slots o) ≡ table_of (of_owner same_owner o (settle slots))
+pub table_full : (slots : OwnedSlots) (o : Owner) → AllFull (of_owner same_owner o slots) → dropped (table_in slots o) ≡ table_of (of_owner same_owner o (settle slots))
 table_full slots o h = from_dropped (of_owner same_owner o slots) [] h ∙ ap (table_from []) (settled_of o slots) ∙ tables_are_lists (of_owner same_owner o (settle slots))
 
 -- ---- numbers of cells
@@ -109,7 +109,7 @@ module _ (to : Numbering) (o : Owner) (free : (p : Chars) (i : ℕ) → to (Cell
   abbrev now : Numbering
   now = with_cells to o (cell_number next rows)
 
-  pub grown_cells : Grown to now
+  pub grown_cells : KeepsNumbers to now
   grown_cells = record { keeps = keeps }
     where
       keeps : (b : Bnode) (n : ℕ) → to b ≡ Some n → now b ≡ Some n
@@ -172,7 +172,7 @@ apart_distinct [] = tt
 apart_distinct (x ∷ xs) =
     ((λ m. let r = Among_of_filter (λ y. not (bytes_eq x y)) (distinct bytes_eq xs) x m in true≢false (sym r.1 ∙ ap not ((exact_texts x x).1 refl))), apart_filter (λ y. not (bytes_eq x y)) (distinct bytes_eq xs) (apart_distinct xs))
 
-module _ (own : List (Entry Owner (Term ℕ))) where
+module _ (own : List (ListEntry Owner (Term ℕ))) where
   abbrev pub rows_for : List Chars → List (Chars × ℕ)
   rows_for ps = map (λ p. (p, length (items p own))) ps
 
@@ -206,9 +206,9 @@ module _ (own : List (Entry Owner (Term ℕ))) where
 
 -- ---- the end of an owner
 
-module _ (to : Numbering) (o : Owner) (free : (p : Chars) (i : ℕ) → to (Cell o p i) ≡ None) (next : ℕ) (s : Node ℕ) (slots : Slots)
-    (subject : Node Bnode) (names : List (Entry Owner (Slot Bnode))) where
-  abbrev own : List (Entry Owner (Term ℕ))
+module _ (to : Numbering) (o : Owner) (free : (p : Chars) (i : ℕ) → to (Cell o p i) ≡ None) (next : ℕ) (s : Node ℕ) (slots : OwnedSlots)
+    (subject : Node Bnode) (names : List (ListEntry Owner (Slot Bnode))) where
+  abbrev own : List (ListEntry Owner (Term ℕ))
   own = of_owner same_owner o (settle slots)
 
   abbrev pub rows : List (Chars × ℕ)
@@ -218,19 +218,19 @@ module _ (to : Numbering) (o : Owner) (free : (p : Chars) (i : ℕ) → to (Cell
   abbrev pub ended_now : Numbering
   ended_now = with_cells to o (cell_number next rows)
 
-  abbrev theirs : List (Entry Owner (Term Bnode))
+  abbrev theirs : List (ListEntry Owner (Term Bnode))
   theirs = of_owner same_owner o (settle names)
 
-  own_named : map (map_entry (rename_slot Number)) slots ≡ map (map_entry (rename_slot (named to))) names → map (map_entry (rename_term Number)) own ≡ map (map_entry (rename_term (named to))) theirs
+  own_named : map (map_entry (rename_slot Number)) slots ≡ map (map_entry (rename_slot (numbered_name to))) names → map (map_entry (rename_term Number)) own ≡ map (map_entry (rename_term (numbered_name to))) theirs
   own_named e =
       of_owner_rename (λ w. w) (rename_term Number) same_owner same_owner (λ a b. refl) o (settle slots)
-      ∙ ap (of_owner same_owner o) (settle_rename Number (λ w. w) slots ∙ ap settle e ∙ sym (settle_rename (named to) (λ w. w) names))
-      ∙ sym (of_owner_rename (λ w. w) (rename_term (named to)) same_owner same_owner (λ a b. refl) o (settle names))
+      ∙ ap (of_owner same_owner o) (settle_rename Number (λ w. w) slots ∙ ap settle e ∙ sym (settle_rename (numbered_name to) (λ w. w) names))
+      ∙ sym (of_owner_rename (λ w. w) (rename_term (numbered_name to)) same_owner same_owner (λ a b. refl) o (settle names))
 
   number_now : (p : Chars) (i n : ℕ) → cell_number next rows p i ≡ Some n → ended_now (Cell o p i) ≡ Some n
   number_now p i n e = rw ((exact_owners o o).1 refl) e
 
-  cell_named : (p : Chars) (i n : ℕ) → cell_number next rows p i ≡ Some n → named ended_now (Cell o p i) ≡ Number n
+  cell_named : (p : Chars) (i n : ℕ) → cell_number next rows p i ≡ Some n → numbered_name ended_now (Cell o p i) ≡ Number n
   cell_named p i n e = ap (name_by (Cell o p i)) (number_now p i n e)
 
   abbrev number_at : Chars → ℕ → ℕ
@@ -242,32 +242,32 @@ module _ (to : Numbering) (o : Owner) (free : (p : Chars) (i : ℕ) → to (Cell
       ∙ cells_are_from own s number_at (lists own) (apart_distinct (map (λ x. x.predicate) own)) next (λ p m i n q. ap (λ (x : Option ℕ). unwrap_or x 0) q)
 
   -- the triples of its lists
-  pub cells_meet : AllFull (of_owner same_owner o slots) → rename_node Number s ≡ rename_node (named to) subject → map (map_entry (rename_slot Number)) slots ≡ map (map_entry (rename_slot (named to))) names
-      → map (rename Number) (cells_of next s (dropped (table_in slots o))) ≡ map (rename (named ended_now)) (cells model (settle names) o subject)
+  pub cells_meet : AllFull (of_owner same_owner o slots) → rename_node Number s ≡ rename_node (numbered_name to) subject → map (map_entry (rename_slot Number)) slots ≡ map (map_entry (rename_slot (numbered_name to))) names
+      → map (rename Number) (cells_of next s (dropped (table_in slots o))) ≡ map (rename (numbered_name ended_now)) (cells model (settle names) o subject)
   unfolding cells
   cells_meet f q e =
       let g = grown_cells to o free next rows in
       let moved : Name Bnode → Name Bnode = later to ended_now g in
-      let named_own = entries_later to ended_now g (rename_term Number) (rename_term moved) rename_term (term_then moved Number) (term_then moved (named to)) own theirs (own_named e) in
+      let named_own = entries_later to ended_now g (rename_term Number) (rename_term moved) rename_term (term_then moved Number) (term_then moved (numbered_name to)) own theirs (own_named e) in
       ap (map (rename Number)) (cells_by_numbers (table_full slots o f))
-      ∙ cells_from_rename Number (λ w. w) number_at (λ p i. named ended_now (Cell o p i)) s own
-      (λ p m. alike_from Number (number_at p) (λ i. named ended_now (Cell o p i)) (length (items p own))
+      ∙ cells_from_rename Number (λ w. w) number_at (λ p i. numbered_name ended_now (Cell o p i)) s own
+      (λ p m. alike_from Number (number_at p) (λ i. numbered_name ended_now (Cell o p i)) (length (items p own))
       (λ i b. let r = has_cell own (lists own) next p i m b in ap (λ (x : Option ℕ). Number (unwrap_or x 0)) r.1 ∙ sym (cell_named p i r.0 r.1)) 0 (items p own) (omega arith))
-      ∙ ap₂ (cells_from (λ p i. named ended_now (Cell o p i))) (node_later to ended_now g s subject q) named_own
-      ∙ sym (cells_from_rename (named ended_now) (λ w. w) (Cell o) (λ p i. named ended_now (Cell o p i)) subject theirs (λ p m. cells_alike (named ended_now) (Cell o p) (λ i. named ended_now (Cell o p i)) (λ i. refl) 0 (items p theirs)))
+      ∙ ap₂ (cells_from (λ p i. numbered_name ended_now (Cell o p i))) (node_later to ended_now g s subject q) named_own
+      ∙ sym (cells_from_rename (numbered_name ended_now) (λ w. w) (Cell o) (λ p i. numbered_name ended_now (Cell o p i)) subject theirs (λ p m. cells_alike (numbered_name ended_now) (Cell o p) (λ i. numbered_name ended_now (Cell o p i)) (λ i. refl) 0 (items p theirs)))
 
   pub cells_size : AllFull (of_owner same_owner o slots) → total rows ≡ size (dropped (table_in slots o))
   cells_size f = size_is own (lists own) ∙ ap size (sym (table_full slots o f))
 
 -- an owner without slots has no triples
-pub nothing_written : (to : Numbering) (o : Owner) (slots : Slots) (names : List (Entry Owner (Slot Bnode))) (subject : Node Bnode) → of_owner same_owner o slots ≡ []
-    → map (map_entry (rename_slot Number)) slots ≡ map (map_entry (rename_slot (named to))) names → cells model (settle names) o subject ≡ []
+pub nothing_written : (to : Numbering) (o : Owner) (slots : OwnedSlots) (names : List (ListEntry Owner (Slot Bnode))) (subject : Node Bnode) → of_owner same_owner o slots ≡ []
+    → map (map_entry (rename_slot Number)) slots ≡ map (map_entry (rename_slot (numbered_name to))) names → cells model (settle names) o subject ≡ []
 unfolding cells
 nothing_written to o slots names subject none e =
     ap (cells_from (Cell o) subject) (sym (settled_of o names) ∙ ap settle (emptied (of_owner same_owner o names)
     (ap (map (map_entry (rename_slot Number))) (sym none) ∙ of_owner_rename (λ w. w) (rename_slot Number) same_owner same_owner (λ a b. refl) o slots ∙ ap (of_owner same_owner o) e
-    ∙ sym (of_owner_rename (λ w. w) (rename_slot (named to)) same_owner same_owner (λ a b. refl) o names))))
+    ∙ sym (of_owner_rename (λ w. w) (rename_slot (numbered_name to)) same_owner same_owner (λ a b. refl) o names))))
   where
-    emptied : (xs : List (Entry Owner (Slot Bnode))) → [] ≡ map (map_entry (rename_slot (named to))) xs → xs ≡ []
+    emptied : (xs : List (ListEntry Owner (Slot Bnode))) → [] ≡ map (map_entry (rename_slot (numbered_name to))) xs → xs ≡ []
     emptied [] h = refl
     emptied (x ∷ xs) h = absurd (cc)

@@ -1,7 +1,7 @@
 -- Labels draw their numbers one after another.
 use Rattle.std.proofs.lemmas.List.{take-append-drop}
 use Rattle.std.proofs.lemmas.Grind.{flat_map-append}
-use Rattle.rx_eval.proofs.Common.{◌≡◌, ◌∙◌, Result, Ok, Err, IfOk, ℕ, suc, Some, slice_get, ◌+◌, ◌<◌, ◌≤◌, ◌^◌, List, [], ◌∷◌, ◌++◌, length, drop, take, flat_map, refl, sym, ap, subst, arith, length-append, append-nil, append_assoc, add-one, OnErr, take_all, at_drop_all, slice_get_within, get_or_from_slice_get, is_some, IfOk-weaker, on_err_weaker, Chars, by_test, label_of, take-suc, ref_seen, refs_seen, Numbered, number_of, draw, Drawn, DrawnSome, map-append}
+use Rattle.rx_eval.proofs.Common.{◌≡◌, ◌∙◌, Result, Ok, Err, IfOk, ℕ, suc, Some, slice_get, ◌+◌, ◌<◌, ◌≤◌, ◌^◌, List, [], ◌∷◌, ◌++◌, length, drop, take, flat_map, refl, sym, ap, subst, arith, length-append, append-nil, append_assoc, add-one, OnErr, take_all, at_drop_all, slice_get_within, get_or_from_slice_get, is_some, IfOk-weaker, on_err_weaker, Chars, by_test, label_of, take-suc, ref_seen, refs_seen, Numbered, label_number, draw, Drawn, DrawnSome, map-append}
 use Rattle.std.proofs.Math.Seq.{drop-cons}
 use Rattle.rx_curie.specs.declared.refs.Ref.{Ref as CodeRef}
 
@@ -14,7 +14,7 @@ nothing_left i xs h = at_drop_all (λ x. x) xs i h
 draw_then : (old : Numbered) (next : ℕ) (xs ys : List Chars) → draw old next (xs ++ ys) ≡ draw (draw old next xs).0 (draw old next xs).1 ys
 draw_then old next [] ys = refl
 draw_then old next (x ∷ xs) ys =
-    by_test (is_some (number_of old x)) (λ t. rw t (draw_then old next xs ys)) (λ f. rw f (draw_then (old ++ (x, next) ∷ []) (next + 1) xs ys))
+    by_test (is_some (label_number old x)) (λ t. rw t (draw_then old next xs ys)) (λ f. rw f (draw_then (old ++ (x, next) ∷ []) (next + 1) xs ys))
 
 pub drawn_then : (old mid new : Numbered) (next middle after : ℕ) (xs ys : List Chars) → Drawn old next xs mid middle → Drawn mid middle ys new after → Drawn old next (xs ++ ys) new after
 drawn_then old mid new next middle after xs ys a b = record { path = draw_then old next xs ys ∙ ap (λ (p : Numbered × ℕ). draw p.0 p.1 ys) a.path ∙ b.path }
@@ -22,7 +22,7 @@ drawn_then old mid new next middle after xs ys a b = record { path = draw_then o
 pub draw_most : (old : Numbered) (next : ℕ) (xs : List Chars) → (draw old next xs).1 ≤ next + length xs
 draw_most old next [] = omega arith
 draw_most old next (x ∷ xs) =
-    by_test (is_some (number_of old x)) (λ t. rw t (omega (arith, draw_most old next xs))) (λ f. rw f (omega (arith, draw_most (old ++ (x, next) ∷ []) (next + 1) xs)))
+    by_test (is_some (label_number old x)) (λ t. rw t (omega (arith, draw_most old next xs))) (λ f. rw f (omega (arith, draw_most (old ++ (x, next) ∷ []) (next + 1) xs)))
 
 pub drawn_most : (old new : Numbered) (next after : ℕ) (xs : List Chars) → Drawn old next xs new after → after ≤ next + length xs
 drawn_most old new next after xs d = subst (λ (p : Numbered × ℕ). p.1 ≤ next + length xs) d.path (draw_most old next xs)

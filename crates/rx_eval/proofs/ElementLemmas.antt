@@ -1,5 +1,5 @@
 -- One element by the rules' names and by numbers.
-use Rattle.rx_eval.proofs.Common.{and_from, if◌then◌else◌, option_or, Chars, then_some, Among, Node, Blank, Term, Triple, same_node, rename_node, rename_term, rename, Path, Naming, Bnode, Author, Made, Owner, Of, Below, same_bnode, model, Facts, Rule, rule, value_now, value_of_text, value, entries_by, rename_entry, rename_resources, rename_rule, rename_inherited, rename_standing, labels, AgreeAt, ◌≡◌, ◌∙◌, ℕ, suc, Bool, true, false, List, [], ◌++◌, map, filter_map, length, Option, Some, None, option_map, is_none, nat_eq, refl, sym, ap, ap₂, not, ◌&&◌, is_some, unwrap_or, or_left, or_right, Inherited, Standing, Resources, hangs, object_below, handed, of_vocabulary, types_by, links_by, properties_by, completed, text_value, Slot, Full, Waiting, slot_of, rule_at, Numbered, number_of, moment, level_at, path_at, standing_by, Numbering, Name, Number, name_by, named, same_name, next_number, owner_begun, owner_for}
+use Rattle.rx_eval.proofs.Common.{and_from, if◌then◌else◌, option_or, Chars, then_some, Among, Node, Blank, Term, Triple, same_node, rename_node, rename_term, rename, Path, Naming, Bnode, Author, Made, Owner, Of, Below, same_bnode, model, Facts, Rule, rule, value_now, value_of_text, value, entries_by, rename_entry, rename_resources, rename_rule, rename_inherited, rename_standing, labels, AgreeAt, ◌≡◌, ◌∙◌, ℕ, suc, Bool, true, false, List, [], ◌++◌, map, filter_map, length, Option, Some, None, option_map, is_none, nat_eq, refl, sym, ap, ap₂, not, ◌&&◌, is_some, unwrap_or, or_left, or_right, Inherited, Standing, Resources, hangs, object_below, handed, of_vocabulary, types_by, links_by, properties_by, completed, text_value, Slot, Full, Waiting, slot_of, rule_at, Numbered, label_number, moment, level_at, path_at, standing_by, Numbering, Name, Number, name_by, numbered_name, same_name, next_number, owner_begun, owner_for}
 use Rattle.rx_rdfa.specs.Resources.{resources}
 use Rattle.rx_rdfa.specs.Inherited.{below}
 use Rattle.rx_rdfa.specs.Element.{start_of, end_of}
@@ -74,9 +74,9 @@ module _ (facts : Facts) (base : Chars) (depth : ℕ) (path : Path) (to : Number
   -- the element's names have these numbers, as far as it asks for them
   pub record Meets : Type 0 where
     pub deep : length path ≡ suc depth
-    pub same : (a b : Bnode) → same_bnode a b ≡ same_name same_bnode (named to a) (named to b)
-    pub authors : (l : Chars) → Among (labels facts) l → named to (Author l) ≡ Number (unwrap_or (number_of list l) 0)
-    pub alike : rename_inherited Number Number seen ≡ rename_inherited (named to) (named own) around
+    pub same : (a b : Bnode) → same_bnode a b ≡ same_name same_bnode (numbered_name to a) (numbered_name to b)
+    pub authors : (l : Chars) → Among (labels facts) l → numbered_name to (Author l) ≡ Number (unwrap_or (label_number list l) 0)
+    pub alike : rename_inherited Number Number seen ≡ rename_inherited (numbered_name to) (numbered_name own) around
     pub made : makes_new facts path here_by ≡ true → to (Made path) ≡ Some fresh
     pub begun : own (Of path) ≡ (if here_by.skipped then None else owner_begun here_by.subject seen.object n)
     pub begun_below :
@@ -90,10 +90,10 @@ module _ (facts : Facts) (base : Chars) (depth : ℕ) (path : Path) (to : Number
     W = Name Owner
 
     abbrev f : Bnode → N
-    f = named to
+    f = numbered_name to
 
     abbrev g : Owner → W
-    g = named own
+    g = numbered_name own
 
     abbrev Q : Naming N W
     Q = record {

@@ -1,5 +1,5 @@
 -- The end of an element.
-use Rattle.rx_eval.proofs.Common.{◌≡◌, ◌∙◌, ℕ, suc, ◌<◌, ◌≤◌, ◌⊎◌, inl, inr, Bool, true, false, List, [], ◌∷◌, ◌++◌, map, length, Option, Some, None, refl, sym, ap, ap₂, subst, subst₂, arith, append-nil, append_assoc, length-append, ◌==◌, IfSome, if◌then◌else◌, map-append, Decides-eqb, Chars, by_test, IfSome_then, Among, Iri, Term, Triple, rename_term, rename, false_unless, Path, Bnode, Made, Cell, Owner, First, Of, Below, same_owner, model, Inherited, resources, below, up, end_of, Entry, map_entry, of_owner, cells, Call, Leave, after, Slot, fill, settle, number, Machine, value_at, left, leave_with, leave, begun, rename_slot, after-append, text_literal, Text, Frame, State, gathers_some, Ending, ending, end_owner, say_text, end_frame, TextAt, Closes, Numbering, Name, Number, named, Grown, Slots, owner_place, Fills, FillUp, Within, Layer, frames_in, paths_in, begun_by, own_in, under_in, open_in, places_of, waiter_of, said_of, KeptAt, LayerStands, LayersStand, Coming, Pending, owner_depth, WaitsFor, AllWaitFor, RunsBy, Runs, IsOver, page_context, Phase, EvaluatorStands, StandsOn, AllWait}
+use Rattle.rx_eval.proofs.Common.{◌≡◌, ◌∙◌, ℕ, suc, ◌<◌, ◌≤◌, ◌⊎◌, inl, inr, Bool, true, false, List, [], ◌∷◌, ◌++◌, map, length, Option, Some, None, refl, sym, ap, ap₂, subst, subst₂, arith, append-nil, append_assoc, length-append, ◌==◌, IfSome, if◌then◌else◌, map-append, Decides-eqb, Chars, by_test, IfSome_then, Among, Iri, Term, Triple, rename_term, rename, false_unless, Path, Bnode, Made, Cell, Owner, First, Of, Below, same_owner, model, Inherited, resources, below, up, end_of, ListEntry, map_entry, of_owner, cells, Call, Leave, after, Slot, fill, settle, number, Machine, value_at, left, leave_with, leave, machine_begun, rename_slot, after-append, text_literal, Text, Frame, State, gathers_some, Ending, ending, end_owner, say_text, end_frame, TextAt, Closes, Numbering, Name, Number, numbered_name, KeepsNumbers, OwnedSlots, owner_place, FillsAtEnd, FillUp, Within, Layer, frames_in, paths_in, begun_by, own_in, under_in, open_in, text_places, waiter_of, text_triples, KeptAt, LayerStands, LayersStand, Coming, OwnerPending, owner_depth, WaitsFor, AllWaitFor, RunsBy, EvaluatorRuns, IsOver, page_context, RunsOrIsOver, EvaluatorStands, StandsOn, AllWait}
 use Rattle.rx_rdfa.proofs.RenamedMachine.{fill_rename}
 use Rattle.rx_eval.proofs.NameLemmas.{grown_then, node_later}
 use Rattle.rx_eval.proofs.FillLemmas.{waits_weaker, of_owner_waits, none_waiting, others_wait, filled_wait, renamed_wait, within_more, fill_quiet, of_filled}
@@ -12,11 +12,11 @@ use Rattle.std.proofs.lemmas.List.{same_from_push}
 -- ---- slots that wait
 
 -- where none waits for the innermost element any more, they do for others
-wait_lower : (r : Path) (paths : List Path) (xs : Slots) → AllWait (λ o q. WaitsFor (r ∷ paths) o q × ¬ (q ≡ r)) xs → AllWaitFor paths xs
+wait_lower : (r : Path) (paths : List Path) (xs : OwnedSlots) → AllWait (λ o q. WaitsFor (r ∷ paths) o q × ¬ (q ≡ r)) xs → AllWaitFor paths xs
 wait_lower r paths xs h = waits_weaker (λ o q. WaitsFor (r ∷ paths) o q × ¬ (q ≡ r)) (WaitsFor paths) (λ o q k. (elim k.0.0 [ inl e ↦ absurd (k.1 (sym e)) | inr a ↦ a ], k.0.1)) xs h
 
 -- an owner deeper than all elements for which slots wait has none that waits
-all_full : (paths : List Path) (o : Owner) → ((r : Path) → Among paths r → length r < owner_depth o) → (xs : Slots) → AllWaitFor paths xs → AllFull (of_owner same_owner o xs)
+all_full : (paths : List Path) (o : Owner) → ((r : Path) → Among paths r → length r < owner_depth o) → (xs : OwnedSlots) → AllWaitFor paths xs → AllFull (of_owner same_owner o xs)
 all_full paths o d xs h =
     waits_weaker (λ w. WaitsFor paths o) (λ w r. ⊥) (λ w r k. let a = d r k.0 in let b = k.1 in omega (arith, a, b)) (of_owner same_owner o xs) (of_owner_waits (WaitsFor paths) o xs h)
 
@@ -34,33 +34,33 @@ pub text_at : (kept chars : Chars) (t : Option Text) → IfSome t (λ t. KeptAt 
 text_at kept chars None k = ([], tt)
 text_at kept chars (Some t) k = (k.front, k.cut)
 
-record TextEnds (to : Numbering) (base : Chars) (l : Layer) (lower : List Layer) (t : Option Text) (state : State) (slots : Slots) (names : List (Entry Owner (Slot Bnode))) (out : List (Triple Bnode)) : Type 0 where
-  now : Slots
+record TextEnds (to : Numbering) (base : Chars) (l : Layer) (lower : List Layer) (t : Option Text) (state : State) (slots : OwnedSlots) (names : List (ListEntry Owner (Slot Bnode))) (out : List (Triple Bnode)) : Type 0 where
+  now : OwnedSlots
   midway : Midway to (open_in base (l ∷ lower)) (map waiter_of lower) state.labels state.drawn (say_text t l.text (ending state.out state.owners state.cells)) now
       (fill l.at.path (value_at model base l.at l.text) names) (out ++ end_of model base l.at l.text)
   waiting : AllWaitFor (paths_in lower) now
   still : (o : Owner) → of_owner same_owner o slots ≡ [] → of_owner same_owner o now ≡ []
 
-module _ (to : Numbering) (m : Machine Bnode Owner) (state : State) (l : Layer) (lower : List Layer) (slots : Slots) (r : RunsBy to m state (l ∷ lower) slots) where
+module _ (to : Numbering) (m : Machine Bnode Owner) (state : State) (l : Layer) (lower : List Layer) (slots : OwnedSlots) (r : RunsBy to m state (l ∷ lower) slots) where
   abbrev v : Term Bnode
   v = value_at model state.base l.at l.text
 
-  out_said : (t : Option Text) → map (rename Number) (said_of t l.text) ≡ map (rename (named to)) (end_of model state.base l.at l.text)
-      → map (rename Number) (state.out ++ said_of t l.text) ≡ map (rename (named to)) (m.out ++ end_of model state.base l.at l.text)
-  out_said t e = map-append (rename Number) state.out (said_of t l.text) ∙ ap₂ ◌++◌ r.out e ∙ sym (map-append (rename (named to)) m.out (end_of model state.base l.at l.text))
+  out_said : (t : Option Text) → map (rename Number) (text_triples t l.text) ≡ map (rename (numbered_name to)) (end_of model state.base l.at l.text)
+      → map (rename Number) (state.out ++ text_triples t l.text) ≡ map (rename (numbered_name to)) (m.out ++ end_of model state.base l.at l.text)
+  out_said t e = map-append (rename Number) state.out (text_triples t l.text) ∙ ap₂ ◌++◌ r.out e ∙ sym (map-append (rename (numbered_name to)) m.out (end_of model state.base l.at l.text))
 
-  text_by : (t : Option Text) → map (rename Number) (said_of t l.text) ≡ map (rename (named to)) (end_of model state.base l.at l.text)
-      → IfSome t (λ t. (chars : Chars) → rename_term Number (text_literal t.by chars) ≡ rename_term (named to) (value_at model state.base l.at chars))
-      → Fills l.at.path (places_of t) (λ o s. FillUp (open_in state.base (l ∷ lower)) (map waiter_of lower) o s) state.owners slots
+  text_by : (t : Option Text) → map (rename Number) (text_triples t l.text) ≡ map (rename (numbered_name to)) (end_of model state.base l.at l.text)
+      → IfSome t (λ t. (chars : Chars) → rename_term Number (text_literal t.by chars) ≡ rename_term (numbered_name to) (value_at model state.base l.at chars))
+      → FillsAtEnd l.at.path (text_places t) (λ o s. FillUp (open_in state.base (l ∷ lower)) (map waiter_of lower) o s) state.owners slots
       → TextEnds to state.base l lower t state slots m.slots m.out
   text_by None s w f =
       let others = others_wait (WaitsFor (l.at.path ∷ paths_in lower)) l.at.path slots f.0 r.waiting in
-      let names = renamed_wait (named to) Number (λ q. ¬ (q ≡ l.at.path)) m.slots slots (sym r.by_names) (waits_weaker (λ o q. WaitsFor (l.at.path ∷ paths_in lower) o q × ¬ (q ≡ l.at.path)) (λ o q. ¬ (q ≡ l.at.path)) (λ o q h. h.1) slots others) in
+      let names = renamed_wait (numbered_name to) Number (λ q. ¬ (q ≡ l.at.path)) m.slots slots (sym r.by_names) (waits_weaker (λ o q. WaitsFor (l.at.path ∷ paths_in lower) o q × ¬ (q ≡ l.at.path)) (λ o q. ¬ (q ≡ l.at.path)) (λ o q h. h.1) slots others) in
       record {
         now = slots;
         midway = record {
           numbers = r.numbers;
-          by_names = r.by_names ∙ ap (map (map_entry (rename_slot (named to)))) (sym (fill_quiet l.at.path v m.slots (none_waiting l.at.path m.slots names)));
+          by_names = r.by_names ∙ ap (map (map_entry (rename_slot (numbered_name to)))) (sym (fill_quiet l.at.path v m.slots (none_waiting l.at.path m.slots names)));
           tables = f.1;
           written = ap (map (rename Number)) (sym (append-nil state.out)) ∙ out_said None s;
         };
@@ -73,7 +73,7 @@ module _ (to : Numbering) (m : Machine Bnode Owner) (state : State) (l : Layer) 
         now = fill l.at.path u slots;
         midway = record {
           numbers = r.numbers;
-          by_names = fill_rename Number (λ o. o) l.at.path u slots ∙ ap₂ (λ (x : Term (Name Bnode)) (y : List (Entry Owner (Slot (Name Bnode)))). fill l.at.path x y) (w l.text) r.by_names ∙ sym (fill_rename (named to) (λ o. o) l.at.path v m.slots);
+          by_names = fill_rename Number (λ o. o) l.at.path u slots ∙ ap₂ (λ (x : Term (Name Bnode)) (y : List (ListEntry Owner (Slot (Name Bnode)))). fill l.at.path x y) (w l.text) r.by_names ∙ sym (fill_rename (numbered_name to) (λ o. o) l.at.path v m.slots);
           tables = f.1 u;
           written = out_said (Some t) s;
         };
@@ -108,7 +108,7 @@ module _ (to : Numbering) (m : Machine Bnode Owner) (state : State) (l : Layer) 
   within_lower : Within (length (open_in state.base lower)) (map waiter_of lower)
   within_lower = all_within state.base to state.kept lower r.each.1
 
-  abbrev names : List (Entry Owner (Slot Bnode))
+  abbrev names : List (ListEntry Owner (Slot Bnode))
   names = fill l.at.path v m.slots
 
   abbrev at_start : Ending
@@ -146,7 +146,7 @@ module _ (to : Numbering) (m : Machine Bnode Owner) (state : State) (l : Layer) 
 
   record BothEnd : Type 0 where
     now : Numbering
-    grown : Grown to now
+    grown : KeepsNumbers to now
     made : (q : Path) → now (Made q) ≡ to (Made q)
     others : (w : Owner) → ¬ (w ≡ Below l.at.path) → ¬ (w ≡ Of l.at.path) → (p : Chars) (i : ℕ) → now (Cell w p i) ≡ to (Cell w p i)
     midway : Midway now (open_in state.base lower) (map waiter_of lower) state.labels state.drawn (end_frame l.frame l.text at_start) said.now names after_it.out
@@ -185,9 +185,9 @@ module _ (to : Numbering) (m : Machine Bnode Owner) (state : State) (l : Layer) 
   not_itself q (inr a) e = let k = shorter to state.base state.kept lower r.each.1 q a in let d = given.deep in let n = ap length e in omega (arith, k, d, n)
 
   abbrev Left : Owner → Type 0
-  Left o = Pending lower (up l.at.path) (suc (number l.at.path)) o
+  Left o = OwnerPending lower (up l.at.path) (suc (number l.at.path)) o
 
-  pending_before : (o : Owner) → Left o → Pending (l ∷ lower) m.path m.next o
+  pending_before : (o : Owner) → Left o → OwnerPending (l ∷ lower) m.path m.next o
   pending_before First h = tt
   pending_before (Of q) (inl c) = inl (coming_before q c)
   pending_before (Below q) (inl c) = inl (coming_before q c)
@@ -245,7 +245,7 @@ module _ (to : Numbering) (m : Machine Bnode Owner) (state : State) (l : Layer) 
     kept_is : new.kept ≡ (if gathers_some (frames_in lower) then state.kept else [])
     kept_is = c.kept ∙ ap (λ (f : List Frame). if gathers_some f then state.kept else []) frames_are
 
-    runs_on : ¬ (lower ≡ []) → ending new.out new.owners new.cells ≡ end_frame l.frame l.text at_start → Runs both_end.now after_it new
+    runs_on : ¬ (lower ≡ []) → ending new.out new.owners new.cells ≡ end_frame l.frame l.text at_start → EvaluatorRuns both_end.now after_it new
     runs_on more q = record {
       layers = lower;
       slots = said.now;
@@ -294,28 +294,28 @@ module _ (to : Numbering) (m : Machine Bnode Owner) (state : State) (l : Layer) 
 
 module _ (to : Numbering) (list : List Call) (state new : State) (c : Closes state new) (page : state.page ≡ page_context state.base) where
   abbrev before : Machine Bnode Owner
-  before = after model state.base list begun
+  before = after model state.base list machine_begun
 
-  calls_more : after model new.base (list ++ Leave ∷ []) begun ≡ leave model state.base before
-  calls_more = ap (λ (b : Chars). after model b (list ++ Leave ∷ []) begun) c.rest.0 ∙ after-append model state.base list (Leave ∷ []) begun
+  calls_more : after model new.base (list ++ Leave ∷ []) machine_begun ≡ leave model state.base before
+  calls_more = ap (λ (b : Chars). after model b (list ++ Leave ∷ []) machine_begun) c.rest.0 ∙ after-append model state.base list (Leave ∷ []) machine_begun
 
   page_kept : new.page ≡ page_context new.base
   page_kept = c.rest.2 ∙ page ∙ ap page_context (sym c.rest.0)
 
-  stands_on : (now : Numbering) (m : Machine Bnode Owner) (b : Bool) → Grown to now → leave model state.base before ≡ m → new.ended ≡ b → Phase b now m new → StandsOn to (list ++ Leave ∷ []) new
+  stands_on : (now : Numbering) (m : Machine Bnode Owner) (b : Bool) → KeepsNumbers to now → leave model state.base before ≡ m → new.ended ≡ b → RunsOrIsOver b now m new → StandsOn to (list ++ Leave ∷ []) new
   stands_on now m b g e q p = record {
     now = now;
     grown = g;
     stands = record {
       page = page_kept;
-      phase = subst₂ (λ (x : Bool) (y : Machine Bnode Owner). Phase x now y new) (sym q) (sym (calls_more ∙ e)) p;
+      phase = subst₂ (λ (x : Bool) (y : Machine Bnode Owner). RunsOrIsOver x now y new) (sym q) (sym (calls_more ∙ e)) p;
     };
   }
 
   some_open : (k : Layer) (lower : List Layer) → (length (frames_in (k ∷ lower)) == 0) ≡ false
   some_open k lower = false_unless (length (frames_in (k ∷ lower)) == 0) (λ t. let e = (Decides-eqb (length (frames_in (k ∷ lower))) 0).0 t in let n = frames_length (k ∷ lower) in omega (arith, e, n))
 
-  left_by : (layers : List Layer) (slots : Slots) → state.ended ≡ false → RunsBy to before state layers slots → StandsOn to (list ++ Leave ∷ []) new
+  left_by : (layers : List Layer) (slots : OwnedSlots) → state.ended ≡ false → RunsBy to before state layers slots → StandsOn to (list ++ Leave ∷ []) new
   left_by [] slots f r = absurd (not_empty new.frames c.frame (sym c.popped ∙ r.frames))
   left_by (l ∷ []) slots f r =
       let o = page_ends to before state l [] slots r new c refl page in
@@ -330,7 +330,7 @@ module _ (to : Numbering) (list : List Call) (state new : State) (c : Closes sta
       frames : new.frames ≡ frames_in (k ∷ lower)
       frames = frames_are to before state l (k ∷ lower) slots r new c
 
-  left_in : (b : Bool) → state.ended ≡ b → Phase b to before state → StandsOn to (list ++ Leave ∷ []) new
+  left_in : (b : Bool) → state.ended ≡ b → RunsOrIsOver b to before state → StandsOn to (list ++ Leave ∷ []) new
   left_in true e p = absurd (not_empty new.frames c.frame (sym c.popped ∙ p.frames))
   left_in false e p = left_by p.layers p.slots e p.by
 

@@ -4,13 +4,13 @@ use Rattle.rx_eval.specs.Places.{object_under}
 use Rattle.rx_eval.specs.Entering.{handed_found, owners_found, own_found, below_found, naming_found}
 use Rattle.rx_eval.specs.declared.places.Surroundings.{Surroundings}
 use Rattle.rx_eval.specs.declared.resources.ElementResources.{ElementResources}
-use Rattle.rx_eval.proofs.Common.{◌≡◌, ◌∙◌, ℕ, suc, Bool, true, false, List, [], ◌∷◌, ◌++◌, map, filter_map, length, Option, Some, None, option_map, nat_eq, refl, sym, ap, ap₂, arith, append_assoc, length-append, Result, Ok, Err, OnOk, ◌&&◌, is_some, if◌then◌else◌, is_none, map-append, Chars, by_test, Node, Term, same_node, node_seen, term_seen, Naming, Facts, entry, entries_by, linked, awaited, Owners, owned, Numbered, moment, resource_term, Owning, owning_seen, owners_seen, Entries, linked_entries, awaited_entry, entries_in, next_number, naming_by, own_number, begun_seen, begun_for, owner_begun, owner_for, owner_seen, found_seen, standing, SlotId, IfSome, both, touched, places_for, own_places, text_seen, Gathers, places_by, put_entries}
+use Rattle.rx_eval.proofs.Common.{◌≡◌, ◌∙◌, ℕ, suc, Bool, true, false, List, [], ◌∷◌, ◌++◌, map, filter_map, length, Option, Some, None, option_map, nat_eq, refl, sym, ap, ap₂, arith, append_assoc, length-append, Result, Ok, Err, OnOk, ◌&&◌, is_some, if◌then◌else◌, is_none, map-append, Chars, by_test, Node, Term, same_node, node_seen, term_seen, Naming, Facts, entry, entries_by, linked, awaited, Owners, owned, Numbered, moment, resource_term, Owning, owning_seen, owners_seen, Entries, linked_entries, awaited_entry, entries_in, next_number, naming_by, own_number, begun_seen, begun_for, owner_begun, owner_for, owner_seen, found_seen, standing_at, SlotId, IfSome, both, touched, places_for, own_places, text_seen, Gathers, places_by, put_entries}
 use Rattle.rx_terms.specs.declared.triples.Node.{Node as CodeNode}
 use Rattle.rx_terms.specs.declared.triples.Term.{Term as CodeTerm}
 use Rattle.rx_rdfa.specs.Resources.{Hanging, Forward, Reverse, InList, Standing, Resources, resources, only}
 use Rattle.rx_rdfa.specs.Inherited.{listed, hangs, own_owner, owner_below, handed, below}
 use Rattle.rx_lists.specs.declared.lists.Owner.{Owner}
-use Rattle.rx_eval.specs.Handing.{begun, begun_number}
+use Rattle.rx_eval.specs.Handing.{begun_number, owner_added}
 use Rattle.rx_eval.specs.Elements.{handed_by, owner_in, begun_below, begun_below_number}
 
 -- ---- the owners
@@ -18,11 +18,11 @@ use Rattle.rx_eval.specs.Elements.{handed_by, owner_in, begun_below, begun_below
 number_is : (s o : CodeNode) (n : ℕ) (other : Owner) → (owner_in (begun_number s o n) other).0 ≡ (if same_node nat_eq (node_seen s) (node_seen o) then other.0 else n)
 number_is s o n other = by_test (same_node nat_eq (node_seen s) (node_seen o)) (λ t. rw t refl) (λ f. rw f refl)
 
-more_owners : (s o : CodeNode) (owners : Owners) → length (begun s o owners) ≡ (if same_node nat_eq (node_seen s) (node_seen o) then length owners else suc (length owners))
+more_owners : (s o : CodeNode) (owners : Owners) → length (owner_added s o owners) ≡ (if same_node nat_eq (node_seen s) (node_seen o) then length owners else suc (length owners))
 more_owners s o owners =
     by_test (same_node nat_eq (node_seen s) (node_seen o)) (λ t. rw t refl) (λ f. rw f (let l = length-append owners (Some (owned s []) ∷ []) in omega (arith, l)))
 
-begun_is : (s o : CodeNode) (owners : Owners) → owners_seen (begun s o owners) ≡ begun_seen (node_seen s) (node_seen o) (owners_seen owners)
+begun_is : (s o : CodeNode) (owners : Owners) → owners_seen (owner_added s o owners) ≡ begun_seen (node_seen s) (node_seen o) (owners_seen owners)
 begun_is s o owners =
     by_test (same_node nat_eq (node_seen s) (node_seen o)) (λ t. rw t refl) (λ f. rw f (map-append (option_map owning_seen) owners (Some (owned s []) ∷ [])))
 
@@ -41,12 +41,12 @@ seen_below (Some object) s n = seen_begun object s n
 pub record Begins (place : Surroundings) (facts : Facts) (found : ElementResources) (object : Option CodeNode) (own below : Option Owner) (old mid : Owners) : Type 0 where
   pub its_object : option_map node_seen object ≡ object_under place facts (found_seen found)
   pub its_own : own ≡ begun_number found.subject place.around.now.object (length old)
-  pub its_lists : mid ≡ begun found.subject place.around.now.object old
+  pub its_lists : mid ≡ owner_added found.subject place.around.now.object old
   pub its_below : below ≡ begun_below_number object found.subject (length mid)
 
 module _ (place : Surroundings) (facts : Facts) (found : ElementResources) (object : Option CodeNode) (own below : Option Owner) (old mid : Owners) (b : Begins place facts found object own below old mid) where
   abbrev stands : Standing ℕ ℕ
-  stands = standing place facts
+  stands = standing_at place facts
 
   abbrev ours : Resources ℕ
   ours = found_seen found

@@ -1,6 +1,6 @@
 -- Places are filled at the ends of elements: what becomes of that when slots are put, and owners begin and end.
 use Rattle.std.proofs.Common.{◌↔◌}
-use Rattle.rx_eval.proofs.Common.{◌≡◌, ◌∙◌, ℕ, zero, suc, ◌<◌, ◌≤◌, Bool, false, List, [], ◌∷◌, ◌++◌, map, length, Option, Some, None, option_map, refl, sym, ap, ap₂, subst, subst₂, arith, ◌||◌, length-set, map-append, or_parts, by_test, Node, Term, Path, Owner, same_owner, Entry, map_entry, of_owner, Slot, Full, Waiting, fill, fill_slot, Table, table_from, SlotId, Owning, owning, put_entries, with_item, fill_seen, fill_all, Slots, Open, owner_place, item_of, table_in, owners_of, slot_waits, waits, HasItem, HasPlace, HasPlaces, Waiter, Fills, FillUp, Apart, WithinPlaces, WithinOption, Within, AllWait, ItemWaits, exact_owners, exact_texts, bytes_eq, rename_slot, false_unless}
+use Rattle.rx_eval.proofs.Common.{◌≡◌, ◌∙◌, ℕ, zero, suc, ◌<◌, ◌≤◌, Bool, false, List, [], ◌∷◌, ◌++◌, map, length, Option, Some, None, option_map, refl, sym, ap, ap₂, subst, subst₂, arith, ◌||◌, length-set, map-append, or_parts, by_test, Node, Term, Path, Owner, same_owner, ListEntry, map_entry, of_owner, Slot, Full, Waiting, fill, fill_slot, PredicateTable, table_from, SlotId, Owning, owning, put_entries, with_item, fill_seen, fill_all, OwnedSlots, OpenOwners, owner_place, slot_term, table_in, owners_of, slot_waits, is_awaited, HasItem, HasPlace, HasPlaces, Waiter, FillsAtEnd, FillUp, OwnersDiffer, WithinPlaces, WithinOption, Within, AllWait, ItemWaits, exact_owners, exact_texts, bytes_eq, rename_slot, false_unless}
 use Rattle.rx_eval.proofs.PlaceLemmas.{still_at, fill_past_all}
 use Rattle.rx_eval.proofs.ListLemmas.{Puts, Match, put_all}
 use Rattle.std.proofs.lemmas.List.{same_from_push}
@@ -10,7 +10,7 @@ Many = List (Option Owning)
 
 -- ---- slots that wait, and are filled
 
-pub waits_weaker : {B O : Type 0} (P Q : O → Path → Type 0) → ((o : O) (r : Path) → P o r → Q o r) → (xs : List (Entry O (Slot B))) → AllWait P xs → AllWait Q xs
+pub waits_weaker : {B O : Type 0} (P Q : O → Path → Type 0) → ((o : O) (r : Path) → P o r → Q o r) → (xs : List (ListEntry O (Slot B))) → AllWait P xs → AllWait Q xs
 waits_weaker P Q k [] h = tt
 waits_weaker {B} P Q k (x ∷ xs) h = (item x.item h.0, waits_weaker P Q k xs h.1)
   where
@@ -20,13 +20,13 @@ waits_weaker {B} P Q k (x ∷ xs) h = (item x.item h.0, waits_weaker P Q k xs h.
     item (Some (Full v)) p = tt
 
 -- those of one owner
-pub of_owner_waits : (P : Owner → Path → Type 0) (o : Owner) (xs : Slots) → AllWait P xs → AllWait (λ w. P o) (of_owner same_owner o xs)
+pub of_owner_waits : (P : Owner → Path → Type 0) (o : Owner) (xs : OwnedSlots) → AllWait P xs → AllWait (λ w. P o) (of_owner same_owner o xs)
 of_owner_waits P o [] h = tt
 of_owner_waits P o (x ∷ xs) h =
     by_test (same_owner x.owner o) (λ t. rw t (subst (λ (w : Owner). ItemWaits (P w) x.item) ((exact_owners x.owner o).0 t) h.0, of_owner_waits P o xs h.1)) (λ f. rw f (of_owner_waits P o xs h.1))
 
 -- none waits for an element, or what waits for it is filled: then what waits does so for others
-pub none_waiting : {B O : Type 0} (r : Path) (xs : List (Entry O (Slot B))) → AllWait (λ o q. ¬ (q ≡ r)) xs → waits r xs ≡ false
+pub none_waiting : {B O : Type 0} (r : Path) (xs : List (ListEntry O (Slot B))) → AllWait (λ o q. ¬ (q ≡ r)) xs → is_awaited r xs ≡ false
 none_waiting r [] h = refl
 none_waiting {B} r (x ∷ xs) h = ap₂ (λ (a b : Bool). a || b) (item x.item h.0) (none_waiting r xs h.1)
   where
@@ -35,10 +35,10 @@ none_waiting {B} r (x ∷ xs) h = ap₂ (λ (a b : Bool). a || b) (item x.item h
     item None n = refl
     item (Some (Full v)) n = refl
 
-pub others_wait : {B O : Type 0} (P : O → Path → Type 0) (r : Path) (xs : List (Entry O (Slot B))) → waits r xs ≡ false → AllWait P xs → AllWait (λ o q. P o q × ¬ (q ≡ r)) xs
+pub others_wait : {B O : Type 0} (P : O → Path → Type 0) (r : Path) (xs : List (ListEntry O (Slot B))) → is_awaited r xs ≡ false → AllWait P xs → AllWait (λ o q. P o q × ¬ (q ≡ r)) xs
 others_wait P r [] h k = tt
 others_wait {B} P r (x ∷ xs) h k =
-    let q = or_parts (slot_waits r x.item) (waits r xs) h in
+    let q = or_parts (slot_waits r x.item) (is_awaited r xs) h in
     (item x.item q.0 k.0, others_wait P r xs q.1 k.1)
   where
     item : (i : Option (Slot B)) → slot_waits r i ≡ false → ItemWaits (P x.owner) i → ItemWaits (λ q. P x.owner q × ¬ (q ≡ r)) i
@@ -46,7 +46,7 @@ others_wait {B} P r (x ∷ xs) h k =
     item None e p = tt
     item (Some (Full v)) e p = tt
 
-pub filled_wait : {B O : Type 0} (P : O → Path → Type 0) (r : Path) (v : Term B) (xs : List (Entry O (Slot B))) → AllWait P xs → AllWait (λ o q. P o q × ¬ (q ≡ r)) (fill r v xs)
+pub filled_wait : {B O : Type 0} (P : O → Path → Type 0) (r : Path) (v : Term B) (xs : List (ListEntry O (Slot B))) → AllWait P xs → AllWait (λ o q. P o q × ¬ (q ≡ r)) (fill r v xs)
 filled_wait P r v [] h = tt
 filled_wait {B} P r v (x ∷ xs) h = (item x.item h.0, filled_wait P r v xs h.1)
   where
@@ -56,7 +56,7 @@ filled_wait {B} P r v (x ∷ xs) h = (item x.item h.0, filled_wait P r v xs h.1)
     item (Some (Full u)) p = tt
 
 -- the same slots by other names
-pub renamed_wait : {B C D O : Type 0} (f : B → D) (g : C → D) (P : Path → Type 0) (ys : List (Entry O (Slot B))) (zs : List (Entry O (Slot C))) → map (map_entry (rename_slot f)) ys ≡ map (map_entry (rename_slot g)) zs
+pub renamed_wait : {B C D O : Type 0} (f : B → D) (g : C → D) (P : Path → Type 0) (ys : List (ListEntry O (Slot B))) (zs : List (ListEntry O (Slot C))) → map (map_entry (rename_slot f)) ys ≡ map (map_entry (rename_slot g)) zs
     → AllWait (λ o. P) zs → AllWait (λ o. P) ys
 renamed_wait f g P [] zs e h = tt
 renamed_wait f g P (y ∷ ys) [] e h = absurd (cc)
@@ -71,10 +71,10 @@ renamed_wait {B} {C} f g P (y ∷ ys) (z ∷ zs) e h =
     item (Some (Waiting r)) (Some (Waiting q)) e h = let k : q ≡ r = cc in subst P k h
     item _ _ e h = absurd (cc)
 
-pub waits_both : {B O : Type 0} (r : Path) (xs ys : List (Entry O (Slot B))) → waits r xs ≡ false → waits r ys ≡ false → waits r (xs ++ ys) ≡ false
+pub waits_both : {B O : Type 0} (r : Path) (xs ys : List (ListEntry O (Slot B))) → is_awaited r xs ≡ false → is_awaited r ys ≡ false → is_awaited r (xs ++ ys) ≡ false
 waits_both r [] ys h k = k
 waits_both r (x ∷ xs) ys h k =
-    let q = or_parts (slot_waits r x.item) (waits r xs) h in
+    let q = or_parts (slot_waits r x.item) (is_awaited r xs) h in
     ap₂ (λ (a b : Bool). a || b) q.0 (waits_both r xs ys q.1 k)
 
 item_quiet : {B : Type 0} (r : Path) (v : Term B) (item : Option (Slot B)) → slot_waits r item ≡ false → option_map (fill_slot r v) item ≡ item
@@ -82,22 +82,22 @@ item_quiet r v None h = refl
 item_quiet r v (Some (Full u)) h = refl
 item_quiet r v (Some (Waiting q)) h = rw h refl
 
-pub fill_quiet : {B O : Type 0} (r : Path) (v : Term B) (xs : List (Entry O (Slot B))) → waits r xs ≡ false → fill r v xs ≡ xs
+pub fill_quiet : {B O : Type 0} (r : Path) (v : Term B) (xs : List (ListEntry O (Slot B))) → is_awaited r xs ≡ false → fill r v xs ≡ xs
 fill_quiet r v [] h = refl
 fill_quiet r v (x ∷ xs) h =
-    let q = or_parts (slot_waits r x.item) (waits r xs) h in
+    let q = or_parts (slot_waits r x.item) (is_awaited r xs) h in
     λ i. record { owner = x.owner; predicate = x.predicate; item = item_quiet r v x.item q.0 i } ∷ fill_quiet r v xs q.1 i
 
-pub of_filled : {B : Type 0} (o : Owner) (r : Path) (v : Term B) (xs : List (Entry Owner (Slot B))) → of_owner same_owner o (fill r v xs) ≡ fill r v (of_owner same_owner o xs)
+pub of_filled : {B : Type 0} (o : Owner) (r : Path) (v : Term B) (xs : List (ListEntry Owner (Slot B))) → of_owner same_owner o (fill r v xs) ≡ fill r v (of_owner same_owner o xs)
 of_filled o r v [] = refl
 of_filled o r v (x ∷ xs) =
     by_test (same_owner x.owner o)
-    (λ t. rw t (ap (λ (l : List (Entry Owner (Slot _))). map_entry (fill_slot r v) x ∷ l) (of_filled o r v xs)))
+    (λ t. rw t (ap (λ (l : List (ListEntry Owner (Slot _))). map_entry (fill_slot r v) x ∷ l) (of_filled o r v xs)))
     (λ f. rw f (of_filled o r v xs))
 
 -- ---- places
 
-item_filled : (m j : ℕ) (v : Term ℕ) (l i : ℕ) (t : Table (Option (Term ℕ))) → HasItem l i t → HasItem l i (with_item m j v t)
+item_filled : (m j : ℕ) (v : Term ℕ) (l i : ℕ) (t : PredicateTable (Option (Term ℕ))) → HasItem l i t → HasItem l i (with_item m j v t)
 item_filled m j v l i [] h = absurd h
 item_filled zero j v zero i (row ∷ t) h = let n = length-set row.1 j (Some v) in omega (arith, n, h)
 item_filled (suc m) j v (suc l) i (row ∷ t) h = item_filled m j v l i t h
@@ -131,30 +131,30 @@ fill_put (s ∷ slots) v xs os h =
 
 -- ---- slots are put
 
-abbrev pub NoneWaits : List Waiter → Slots → Type 0
+abbrev pub NoneWaits : List Waiter → OwnedSlots → Type 0
 NoneWaits [] ys = Unit {0}
-NoneWaits (w ∷ waiters) ys = (waits w.path ys ≡ false) × NoneWaits waiters ys
+NoneWaits (w ∷ waiters) ys = (is_awaited w.path ys ≡ false) × NoneWaits waiters ys
 
-pub put_fill_up : (open_owners : Open) → Apart open_owners → (xs : Puts) (ys : Slots) → Match (owner_place open_owners) xs ys → (waiters : List Waiter) → NoneWaits waiters ys
-    → (owners : Many) (slots : Slots) → FillUp open_owners waiters owners slots → FillUp open_owners waiters (put_entries xs owners) (slots ++ ys)
+pub put_fill_up : (open_owners : OpenOwners) → OwnersDiffer open_owners → (xs : Puts) (ys : OwnedSlots) → Match (owner_place open_owners) xs ys → (waiters : List Waiter) → NoneWaits waiters ys
+    → (owners : Many) (slots : OwnedSlots) → FillUp open_owners waiters owners slots → FillUp open_owners waiters (put_entries xs owners) (slots ++ ys)
 put_fill_up open_owners a xs ys m [] n owners slots h = ap (put_entries xs) h ∙ put_all open_owners a xs ys slots m
 put_fill_up open_owners a xs ys m (w ∷ waiters) n owners slots h =
     (ap (put_entries xs) h.0 ∙ put_all open_owners a xs ys slots m, fills w.places h.1 (λ os ss k. put_fill_up open_owners a xs ys m waiters n.1 os ss k))
   where
-    fills : (places : Option (List SlotId)) → Fills w.path places (λ o s. FillUp open_owners waiters o s) owners slots
-        → ((os : Many) (ss : Slots) → FillUp open_owners waiters os ss → FillUp open_owners waiters (put_entries xs os) (ss ++ ys))
-        → Fills w.path places (λ o s. FillUp open_owners waiters o s) (put_entries xs owners) (slots ++ ys)
+    fills : (places : Option (List SlotId)) → FillsAtEnd w.path places (λ o s. FillUp open_owners waiters o s) owners slots
+        → ((os : Many) (ss : OwnedSlots) → FillUp open_owners waiters os ss → FillUp open_owners waiters (put_entries xs os) (ss ++ ys))
+        → FillsAtEnd w.path places (λ o s. FillUp open_owners waiters o s) (put_entries xs owners) (slots ++ ys)
     fills None k more = (waits_both w.path slots ys k.0 n.0, more owners slots k.1)
     fills (Some places) k more = (
       places_put xs places owners k.0,
-      λ v. subst₂ (λ (o : Many) (s : Slots). FillUp open_owners waiters o s) (sym (fill_put places v xs owners k.0))
-          (sym (map-append (map_entry (fill_slot w.path v)) slots ys ∙ ap (λ (l : Slots). fill w.path v slots ++ l) (fill_quiet w.path v ys n.0)))
+      λ v. subst₂ (λ (o : Many) (s : OwnedSlots). FillUp open_owners waiters o s) (sym (fill_put places v xs owners k.0))
+          (sym (map-append (map_entry (fill_slot w.path v)) slots ys ∙ ap (λ (l : OwnedSlots). fill w.path v slots ++ l) (fill_quiet w.path v ys n.0)))
           (more (fill_all places v owners) (fill w.path v slots) (k.1 v)),
     )
 
 -- ---- an owner begins, or the last one ends
 
-pub owners_more : (slots : Slots) (open_owners : Open) (o : Owner) (s : Node ℕ) → owners_of slots (open_owners ++ (o, s) ∷ []) ≡ owners_of slots open_owners ++ Some (owning s (table_in slots o)) ∷ []
+pub owners_more : (slots : OwnedSlots) (open_owners : OpenOwners) (o : Owner) (s : Node ℕ) → owners_of slots (open_owners ++ (o, s) ∷ []) ≡ owners_of slots open_owners ++ Some (owning s (table_in slots o)) ∷ []
 owners_more slots [] o s = refl
 owners_more slots (one ∷ more) o s = ap (λ (l : Many). Some (owning one.1 (table_in slots one.0)) ∷ l) (owners_more slots more o s)
 
@@ -201,20 +201,20 @@ places_both (s ∷ slots) os x b =
     (λ h. (one.0 h.0, more.0 h.1), λ h. (one.1 h.0, more.1 h.1))
 
 -- the last owner has these slots, of which none waits
-module _ (open_owners : Open) (o : Owner) (s : Node ℕ) (own : Slots) (full : AllWait (λ o r. ⊥) own) where
+module _ (open_owners : OpenOwners) (o : Owner) (s : Node ℕ) (own : OwnedSlots) (full : AllWait (λ o r. ⊥) own) where
   abbrev last : Option Owning
-  last = Some (owning s (table_from [] (map (map_entry item_of) own)))
+  last = Some (owning s (table_from [] (map (map_entry slot_term) own)))
 
-  abbrev more_owners : Open
+  abbrev more_owners : OpenOwners
   more_owners = open_owners ++ (o, s) ∷ []
 
-  table_both : (owners : Many) (slots : Slots) → of_owner same_owner o slots ≡ own → (owners ≡ owners_of slots open_owners) ↔ (owners ++ last ∷ [] ≡ owners_of slots more_owners)
+  table_both : (owners : Many) (slots : OwnedSlots) → of_owner same_owner o slots ≡ own → (owners ≡ owners_of slots open_owners) ↔ (owners ++ last ∷ [] ≡ owners_of slots more_owners)
   table_both owners slots e = (
-    λ h. ap₂ (λ (l : Many) (t : Slots). l ++ Some (owning s (table_from [] (map (map_entry item_of) t))) ∷ []) h (sym e) ∙ sym (owners_more slots open_owners o s),
+    λ h. ap₂ (λ (l : Many) (t : OwnedSlots). l ++ Some (owning s (table_from [] (map (map_entry slot_term) t))) ∷ []) h (sym e) ∙ sym (owners_more slots open_owners o s),
     λ h. (same_from_push owners (owners_of slots open_owners) last _ (h ∙ owners_more slots open_owners o s)).0,
   )
 
-  pub fill_up_both : (waiters : List Waiter) (owners : Many) (slots : Slots) → of_owner same_owner o slots ≡ own → Within (length owners) waiters
+  pub fill_up_both : (waiters : List Waiter) (owners : Many) (slots : OwnedSlots) → of_owner same_owner o slots ≡ own → Within (length owners) waiters
       → FillUp open_owners waiters owners slots ↔ FillUp more_owners waiters (owners ++ last ∷ []) slots
   fill_up_both [] owners slots e b = table_both owners slots e
   fill_up_both (w ∷ waiters) owners slots e b =
@@ -226,8 +226,8 @@ module _ (open_owners : Open) (o : Owner) (s : Node ℕ) (own : Slots) (full : A
       still v = of_filled o w.path v slots ∙ ap (fill w.path v) e ∙ fill_quiet w.path v own (none_waiting w.path own (waits_weaker (λ o r. ⊥) (λ o r. ¬ (r ≡ w.path)) (λ o r h. absurd h) own full))
 
       fills : (places : Option (List SlotId)) → WithinOption (length owners) places
-          → ((os : Many) (ss : Slots) → of_owner same_owner o ss ≡ own → length owners ≡ length os → FillUp open_owners waiters os ss ↔ FillUp more_owners waiters (os ++ last ∷ []) ss)
-          → Fills w.path places (λ os ss. FillUp open_owners waiters os ss) owners slots ↔ Fills w.path places (λ os ss. FillUp more_owners waiters os ss) (owners ++ last ∷ []) slots
+          → ((os : Many) (ss : OwnedSlots) → of_owner same_owner o ss ≡ own → length owners ≡ length os → FillUp open_owners waiters os ss ↔ FillUp more_owners waiters (os ++ last ∷ []) ss)
+          → FillsAtEnd w.path places (λ os ss. FillUp open_owners waiters os ss) owners slots ↔ FillsAtEnd w.path places (λ os ss. FillUp more_owners waiters os ss) (owners ++ last ∷ []) slots
       fills None c more = let m = more owners slots e refl in (λ k. (k.0, m.0 k.1), λ k. (k.0, m.1 k.1))
       fills (Some places) c more =
           let p = places_both places owners last c in

@@ -1,5 +1,5 @@
 -- Which text is kept.
-use Rattle.rx_eval.proofs.Common.{◌≡◌, ◌∙◌, ℕ, suc, ◌<◌, ◌≤◌, ◌-◌, ◌+◌, Bool, true, false, List, [], ◌∷◌, ◌++◌, length, Option, Some, None, option_map, refl, sym, ap, subst, arith, length-append, true≢false, is_some, ◌||◌, ◌==◌, if◌then◌else◌, nat_tests, Chars, by_test, frame_seen, text_seen, Inherited, context_seen, all_frames, IsRooted, gathers_some, first_gathering, first_of, is_place, IsSound}
+use Rattle.rx_eval.proofs.Common.{◌≡◌, ◌∙◌, ℕ, suc, ◌<◌, ◌≤◌, ◌-◌, ◌+◌, Bool, true, false, List, [], ◌∷◌, ◌++◌, length, Option, Some, None, option_map, refl, sym, ap, subst, arith, length-append, true≢false, is_some, ◌||◌, ◌==◌, if◌then◌else◌, nat_tests, Chars, by_test, frame_seen, text_seen, Inherited, context_seen, all_frames, IsRooted, gathers_some, first_gathering, outermost_place, is_place, IsSound}
 use Rattle.rx_eval.specs.declared.frames.Frame.{Frame as CodeFrame}
 use Rattle.rx_eval.specs.declared.frames.Gathered.{Gathered}
 use Rattle.rx_eval.proofs.ListLemmas.{suc_is}
@@ -7,11 +7,11 @@ use Rattle.rx_eval.proofs.NumberLemmas.{none_is}
 use Rattle.rx_eval.proofs.SkippedLemmas.{counted_all, counted_length, rooted_more, rooted_less, rooted_in, none_gathers, others_gather}
 
 -- one more frame
-pub first_more : (fs : List CodeFrame) (f : CodeFrame) → first_gathering (fs ++ f ∷ []) ≡ first_of (first_gathering fs) (is_some f.gathered) (length fs)
+pub first_more : (fs : List CodeFrame) (f : CodeFrame) → first_gathering (fs ++ f ∷ []) ≡ outermost_place (first_gathering fs) (is_some f.gathered) (length fs)
 first_more [] f = by_test (is_some f.gathered) (λ t. rw t refl) (λ n. rw n refl)
 first_more (x ∷ fs) f = by_test (is_some x.gathered) (λ t. rw t refl) (λ n. rw n (ap (option_map suc) (first_more fs f) ∙ past (first_gathering fs) (is_some f.gathered) (length fs)))
   where
-    past : (m : Option ℕ) (b : Bool) (n : ℕ) → option_map suc (first_of m b n) ≡ first_of (option_map suc m) b (suc n)
+    past : (m : Option ℕ) (b : Bool) (n : ℕ) → option_map suc (outermost_place m b n) ≡ outermost_place (option_map suc m) b (suc n)
     past None true n = refl
     past _ _ n = refl
 
@@ -26,7 +26,7 @@ bounded (x ∷ fs) m h =
 pub first_less : (fs : List CodeFrame) (f : CodeFrame) (old : Option ℕ) → old ≡ first_gathering (fs ++ f ∷ []) → (if is_place old (length fs) then None else old) ≡ first_gathering fs
 first_less fs f old e = ap (λ (o : Option ℕ). if is_place o (length fs) then None else o) (e ∙ first_more fs f) ∙ back (first_gathering fs) refl (is_some f.gathered)
   where
-    back : (r : Option ℕ) → first_gathering fs ≡ r → (b : Bool) → (if is_place (first_of r b (length fs)) (length fs) then None else first_of r b (length fs)) ≡ r
+    back : (r : Option ℕ) → first_gathering fs ≡ r → (b : Bool) → (if is_place (outermost_place r b (length fs)) (length fs) then None else outermost_place r b (length fs)) ≡ r
     back None e true = let z : (length fs == length fs) ≡ true = grind (arith, nat_tests) in rw z refl
     back None e false = refl
     back (Some m) e b = let l = bounded fs m e in let z : (m == length fs) ≡ false = grind (arith, nat_tests) in rw z refl
@@ -53,7 +53,7 @@ quiet_by : (b : Bool) (old : Option ℕ) (kept : Chars) → (old ≡ None → ke
 quiet_by true old kept q e = refl
 quiet_by false old kept q e = q e
 
-was_none : (old : Option ℕ) (b : Bool) (n : ℕ) → first_of old b n ≡ None → old ≡ None
+was_none : (old : Option ℕ) (b : Bool) (n : ℕ) → outermost_place old b n ≡ None → old ≡ None
 was_none None b n e = refl
 was_none (Some m) b n e = e
 
@@ -89,7 +89,7 @@ module _ {levels depth : ℕ} {a : Inherited ℕ ℕ} {fs : List CodeFrame} {ski
 
   -- a frame more
   pub sound_more : {n : ℕ} {more : List CodeFrame} (f : CodeFrame) {after : Option ℕ} → depth < levels → f.skipped ≡ skipped → more ≡ fs ++ f ∷ [] → n ≡ length fs
-      → after ≡ first_of place (is_some f.gathered) n → IsSound levels (depth + 1) a more 0 after kept
+      → after ≡ outermost_place place (is_some f.gathered) n → IsSound levels (depth + 1) a more 0 after kept
   sound_more {n} {more} f {after} r k e l h = record {
     room = omega (arith, r);
     deep =
@@ -99,14 +99,14 @@ module _ {levels depth : ℕ} {a : Inherited ℕ ℕ} {fs : List CodeFrame} {ski
     within = omega arith;
     rooted = subst (λ (x : List CodeFrame). IsRooted x 0) (sym e) (rooted_more fs f (subst (IsRooted fs) (sym k) s.rooted));
     first =
-        h ∙ ap (first_of place (is_some f.gathered)) l ∙ ap (λ (o : Option ℕ). first_of o (is_some f.gathered) (length fs)) s.first ∙ sym (first_more fs f)
+        h ∙ ap (outermost_place place (is_some f.gathered)) l ∙ ap (λ (o : Option ℕ). outermost_place o (is_some f.gathered) (length fs)) s.first ∙ sym (first_more fs f)
         ∙ ap first_gathering (sym e);
     quiet = λ z. s.quiet (was_none place (is_some f.gathered) n (sym h ∙ z));
   }
 
   -- a frame more, and so many skipped elements in it
   pub sound_framed : {n : ℕ} (m : ℕ) {more : List CodeFrame} (f : CodeFrame) {after : Option ℕ} → depth + 1 + m ≤ levels → 0 < depth → f.skipped ≡ skipped → more ≡ fs ++ f ∷ [] → n ≡ length fs
-      → after ≡ first_of place (is_some f.gathered) n → IsSound levels (depth + (1 + m)) a more m after kept
+      → after ≡ outermost_place place (is_some f.gathered) n → IsSound levels (depth + (1 + m)) a more m after kept
   sound_framed {n} m {more} f {after} r d k e l h =
       let t : IsSound levels (depth + 1) a more 0 after kept = sound_more f (omega (arith, r)) k e l h in
       sound_with t (omega arith) m {d = depth + (1 + m)} (omega (arith, r)) (omega (arith, t.deep, counted_length a more m))

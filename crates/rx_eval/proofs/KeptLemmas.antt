@@ -1,7 +1,7 @@
 -- Which frames keep text, by the rules.
 use Rattle.rx_rdfa.specs.Resources.{resources}
 use Rattle.rx_rdfa.specs.Inherited.{below}
-use Rattle.rx_eval.proofs.Common.{◌≡◌, ◌∙◌, Bool, true, false, List, [], ◌∷◌, ◌++◌, map, refl, sym, ap, ap₂, is_some, map-append, Chars, Path, Facts, Bnode, Owner, model, Standing, inherited, up, begun, Call, Line, after, line_after, no_line, standings_of, at_after, at_begun, Frame, State, Numbering, Layer, frames_in, LayersStand, Phase}
+use Rattle.rx_eval.proofs.Common.{◌≡◌, ◌∙◌, Bool, true, false, List, [], ◌∷◌, ◌++◌, map, refl, sym, ap, ap₂, is_some, map-append, Chars, Path, Facts, Bnode, Owner, model, Standing, inherited, up, machine_begun, Call, FactsLine, after, line_after, no_line, standings_of, at_after, at_begun, Frame, State, Numbering, Layer, frames_in, LayersStand, RunsOrIsOver}
 use Rattle.rx_eval.specs.Standing.{gathers_text}
 use Rattle.rx_eval.specs.KeptTexts.{KeptTextsHold, gathering_along, gathering_after, KeepsWhereGathered}
 
@@ -24,12 +24,12 @@ along_line base (facts ∷ above) path =
     ap (λ (x : List Bool). x ++ gathers_text model base (record { facts = facts; path = path; around = inherited model base above (up path) }) ∷ []) (along_line base above (up path))
 
 module _ (to : Numbering) (list : List Call) (state : State) where
-  of_line : gathering state.base (after model state.base list begun).standings ≡ gathering_after state.base list
+  of_line : gathering state.base (after model state.base list machine_begun).standings ≡ gathering_after state.base list
   of_line =
-      let line : Line = line_after list no_line in
-      ap (gathering state.base) (at_after model state.base list begun no_line (at_begun model state.base)).standings ∙ along_line state.base line.facts line.path
+      let line : FactsLine = line_after list no_line in
+      ap (gathering state.base) (at_after model state.base list machine_begun no_line (at_begun model state.base)).standings ∙ along_line state.base line.facts line.path
 
-  kept_in : (b : Bool) → Phase b to (after model state.base list begun) state → map keeps state.frames ≡ gathering_after state.base list
+  kept_in : (b : Bool) → RunsOrIsOver b to (after model state.base list machine_begun) state → map keeps state.frames ≡ gathering_after state.base list
   kept_in true p = ap (map keeps) p.frames ∙ ap (gathering state.base) (sym p.standings) ∙ of_line
   kept_in false p =
       ap (map keeps) p.by.frames ∙ layers_keep to state.base state.kept p.layers p.by.each ∙ ap (gathering state.base) (sym p.by.standings) ∙ of_line

@@ -1,44 +1,44 @@
 -- Labels and their numbers.
-use Rattle.rx_eval.proofs.Common.{◌≡◌, ◌∙◌, ℕ, ◌+◌, ◌<◌, false, cond, List, [], ◌∷◌, ◌++◌, map, length, get_or, Some, None, bytes_eq, refl, sym, ap, ap₂, subst, arith, position_or_len, list_any, position, chars, IsUtf8, map-append, length-map, by_test, same-chars, nat_lt, exact_texts, Numbered, number_of}
+use Rattle.rx_eval.proofs.Common.{◌≡◌, ◌∙◌, ℕ, ◌+◌, ◌<◌, false, cond, List, [], ◌∷◌, ◌++◌, map, length, get_or, Some, None, bytes_eq, refl, sym, ap, ap₂, subst, arith, position_or_len, list_any, position, chars, IsUtf8, map-append, length-map, by_test, same-chars, nat_lt, exact_texts, Numbered, label_number}
 use Rattle.rx_lists.specs.Rows.{first_place, FoundAt}
 use Rattle.rx_lists.proofs.RowLemmas.{found_in, same_turned, not_first, behind}
-use Rattle.rx_eval.specs.Rows.{rows, IsNew}
+use Rattle.rx_eval.specs.Rows.{label_rows, IsNew}
 
-number_at : (p : List ℕ) (ks : List (List ℕ)) (ns : List ℕ) (d : ℕ) → length ks ≡ length ns → first_place p ks < length ks → Some (get_or ns (first_place p ks) d) ≡ number_of (rows ks ns) p
+number_at : (p : List ℕ) (ks : List (List ℕ)) (ns : List ℕ) (d : ℕ) → length ks ≡ length ns → first_place p ks < length ks → Some (get_or ns (first_place p ks) d) ≡ label_number (label_rows ks ns) p
 number_at p [] ns d e h = absurd (omega arith)
 number_at p (k ∷ ks) [] d e h = absurd (omega arith)
 number_at p (k ∷ ks) (n ∷ ns) d e h =
     by_test (bytes_eq k p) (λ t. rw t refl) (λ f. rw f (number_at p ks ns d (omega arith) (behind p k ks f h)))
 
-no_number : (p : List ℕ) (ks : List (List ℕ)) (ns : List ℕ) → first_place p ks ≡ length ks → None ≡ number_of (rows ks ns) p
+no_number : (p : List ℕ) (ks : List (List ℕ)) (ns : List ℕ) → first_place p ks ≡ length ks → None ≡ label_number (label_rows ks ns) p
 no_number p (k ∷ ks) (n ∷ ns) h = let q = not_first p k ks h in rw q.0 (no_number p ks ns q.1)
 no_number p _ _ h = refl
 
-pub found : (p : List ℕ) (ks : List (List ℕ)) (ns : List ℕ) (all : Numbered) (i n : ℕ) → rows ks ns ≡ all → length ks ≡ length ns → Some i ≡ position (bytes_eq p) ks → n ≡ get_or ns i n
-    → Some n ≡ number_of all p
+pub found : (p : List ℕ) (ks : List (List ℕ)) (ns : List ℕ) (all : Numbered) (i n : ℕ) → label_rows ks ns ≡ all → length ks ≡ length ns → Some i ≡ position (bytes_eq p) ks → n ≡ get_or ns i n
+    → Some n ≡ label_number all p
 found p ks ns all i n v e s g =
     let at : FoundAt p ks (Some i) = subst (FoundAt p ks) (sym s) (found_in bytes_eq exact_texts p ks) in
     let w : first_place p ks < length ks = subst (λ (x : ℕ). x < length ks) at.0 at.1 in
-    ap Some (g ∙ ap (λ (x : ℕ). get_or ns x n) at.0) ∙ number_at p ks ns n e w ∙ ap (λ (x : Numbered). number_of x p) v
+    ap Some (g ∙ ap (λ (x : ℕ). get_or ns x n) at.0) ∙ number_at p ks ns n e w ∙ ap (λ (x : Numbered). label_number x p) v
 
-pub missing : (p : List ℕ) (ks : List (List ℕ)) (ns : List ℕ) (all : Numbered) → rows ks ns ≡ all → None ≡ position (bytes_eq p) ks → None ≡ number_of all p
-missing p ks ns all v s = no_number p ks ns (subst (FoundAt p ks) (sym s) (found_in bytes_eq exact_texts p ks)) ∙ ap (λ (x : Numbered). number_of x p) v
+pub missing : (p : List ℕ) (ks : List (List ℕ)) (ns : List ℕ) (all : Numbered) → label_rows ks ns ≡ all → None ≡ position (bytes_eq p) ks → None ≡ label_number all p
+missing p ks ns all v s = no_number p ks ns (subst (FoundAt p ks) (sym s) (found_in bytes_eq exact_texts p ks)) ∙ ap (λ (x : Numbered). label_number x p) v
 
-is_new : (p : List ℕ) (ks : List (List ℕ)) (ns : List ℕ) → length ks ≡ length ns → number_of (rows ks ns) p ≡ None → IsNew p ks
+is_new : (p : List ℕ) (ks : List (List ℕ)) (ns : List ℕ) → length ks ≡ length ns → label_number (label_rows ks ns) p ≡ None → IsNew p ks
 is_new p [] ns e h = refl
 is_new p (k ∷ ks) [] e h = absurd (omega arith)
 is_new p (k ∷ ks) (n ∷ ns) e h = by_test (bytes_eq k p) (λ t. absurd (cc (rw t at h))) (λ f. rw f (is_new p ks ns (omega arith) (rw f at h)))
 
-pub is_new_in : (p q : List ℕ) (ks : List (List ℕ)) (ns : List ℕ) (all : Numbered) → rows ks ns ≡ all → length ks ≡ length ns → q ≡ p → number_of all p ≡ None → IsNew q ks
-is_new_in p q ks ns all v e s h = subst (λ (x : List ℕ). IsNew x ks) (sym s) (is_new p ks ns e (ap (λ (x : Numbered). number_of x p) v ∙ h))
+pub is_new_in : (p q : List ℕ) (ks : List (List ℕ)) (ns : List ℕ) (all : Numbered) → label_rows ks ns ≡ all → length ks ≡ length ns → q ≡ p → label_number all p ≡ None → IsNew q ks
+is_new_in p q ks ns all v e s h = subst (λ (x : List ℕ). IsNew x ks) (sym s) (is_new p ks ns e (ap (λ (x : Numbered). label_number x p) v ∙ h))
 
-pub rows_more : (ks : List (List ℕ)) (ns : List ℕ) (k : List ℕ) (n : ℕ) → length ks ≡ length ns → rows (ks ++ k ∷ []) (ns ++ n ∷ []) ≡ rows ks ns ++ (k, n) ∷ []
+pub rows_more : (ks : List (List ℕ)) (ns : List ℕ) (k : List ℕ) (n : ℕ) → length ks ≡ length ns → label_rows (ks ++ k ∷ []) (ns ++ n ∷ []) ≡ label_rows ks ns ++ (k, n) ∷ []
 rows_more [] [] k n e = refl
 rows_more (j ∷ ks) (m ∷ ns) k n e = ap (λ (x : Numbered). (j, m) ∷ x) (rows_more ks ns k n (omega arith))
 rows_more _ _ k n e = absurd (omega arith)
 
-pub added : (all : Numbered) (ks more_ks : List (List ℕ)) (ns more_ns : List ℕ) (k p : List ℕ) (n : ℕ) → rows ks ns ≡ all → length ks ≡ length ns → k ≡ p
-    → more_ks ≡ ks ++ k ∷ [] → more_ns ≡ ns ++ n ∷ [] → rows more_ks more_ns ≡ all ++ (p, n) ∷ []
+pub added : (all : Numbered) (ks more_ks : List (List ℕ)) (ns more_ns : List ℕ) (k p : List ℕ) (n : ℕ) → label_rows ks ns ≡ all → length ks ≡ length ns → k ≡ p
+    → more_ks ≡ ks ++ k ∷ [] → more_ns ≡ ns ++ n ∷ [] → label_rows more_ks more_ns ≡ all ++ (p, n) ∷ []
 added all ks more_ks ns more_ns k p n v e s g h = rw (g, h) (rows_more ks ns k n e ∙ ap (λ (x : Numbered). x ++ (k, n) ∷ []) v ∙ ap (λ (x : List ℕ). all ++ (x, n) ∷ []) s)
 
 -- ---- keys that are kept as bytes

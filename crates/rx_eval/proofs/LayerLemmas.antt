@@ -1,22 +1,22 @@
 -- The frames of the open elements, and the owners that are open.
 use Rattle.std.proofs.lemmas.List.Folds.{list_any-append}
-use Rattle.rx_eval.proofs.Common.{◌≡◌, ◌∙◌, ℕ, suc, ◌+◌, ◌<◌, ◌≤◌, ⊎_elim, false, List, [], ◌∷◌, ◌++◌, map, length, Option, Some, None, option_map, refl, sym, ap, subst, arith, append-nil, length-append, IfSome, cases_lt, Chars, by_test, IfSome_then, Node, false_unless, Owner, First, Of, Below, same_owner, model, Inherited, resources, below, end_of, value_at, inherit, rename_inherited, exact_owners, text_literal, Frame, handed_on, Numbering, Number, named, Grown, Open, owner_place, Apart, Within, Layer, frames_in, begun_by, own_in, under_in, open_in, waiter_of, said_of, LayerStands, LayersStand, owner_depth, page_context, ◌⊎◌, inl, inr, or_parts, is_some, ◌||◌, gathers_some, KeptAt, path_in, WithinOption, places_of, Text}
+use Rattle.rx_eval.proofs.Common.{◌≡◌, ◌∙◌, ℕ, suc, ◌+◌, ◌<◌, ◌≤◌, ⊎_elim, false, List, [], ◌∷◌, ◌++◌, map, length, Option, Some, None, option_map, refl, sym, ap, subst, arith, append-nil, length-append, IfSome, cases_lt, Chars, by_test, IfSome_then, Node, false_unless, Owner, First, Of, Below, same_owner, model, Inherited, resources, below, end_of, value_at, inherit, rename_inherited, exact_owners, text_literal, Frame, handed_on, Numbering, Number, numbered_name, KeepsNumbers, OpenOwners, owner_place, OwnersDiffer, Within, Layer, frames_in, begun_by, own_in, under_in, open_in, waiter_of, text_triples, LayerStands, LayersStand, owner_depth, page_context, ◌⊎◌, inl, inr, or_parts, is_some, ◌||◌, gathers_some, KeptAt, path_in, WithinOption, text_places, Text}
 use Rattle.rx_eval.proofs.NameLemmas.{grown_same, node_later, term_later, triples_later, inherited_later}
 use Rattle.rx_eval.proofs.FillLemmas.{within_more}
 use Rattle.rx_eval.proofs.ListLemmas.{owner_turned, no_suc, suc_is}
 
 -- ---- owners and their numbers
 
-pub place_front : (xs ys : Open) (o : Owner) (n : ℕ) → owner_place xs o ≡ Some n → owner_place (xs ++ ys) o ≡ Some n
+pub place_front : (xs ys : OpenOwners) (o : Owner) (n : ℕ) → owner_place xs o ≡ Some n → owner_place (xs ++ ys) o ≡ Some n
 place_front [] ys o n h = absurd (cc)
 place_front (x ∷ xs) ys o n h =
     by_test (same_owner x.0 o) (λ t. rw t (rw t at h))
     (λ f. rw f (let m = suc_is (owner_place xs o) n (rw f at h) in ap (option_map suc) (place_front xs ys o m.0 m.1) ∙ ap Some (sym m.2)))
 
-pub grown_open : (xs ys : Open) → Grown (owner_place xs) (owner_place (xs ++ ys))
+pub grown_open : (xs ys : OpenOwners) → KeepsNumbers (owner_place xs) (owner_place (xs ++ ys))
 grown_open xs ys = record { keeps = place_front xs ys }
 
-pub place_back : (xs ys : Open) (o : Owner) → owner_place xs o ≡ None → owner_place (xs ++ ys) o ≡ option_map (λ n. length xs + n) (owner_place ys o)
+pub place_back : (xs ys : OpenOwners) (o : Owner) → owner_place xs o ≡ None → owner_place (xs ++ ys) o ≡ option_map (λ n. length xs + n) (owner_place ys o)
 place_back [] ys o h = shifted (owner_place ys o)
   where
     shifted : (p : Option ℕ) → p ≡ option_map (λ n. 0 + n) p
@@ -30,24 +30,24 @@ place_back (x ∷ xs) ys o h =
     shifted None = refl
     shifted (Some n) = let e : suc (length xs + n) ≡ suc (length xs) + n = omega arith in ap Some e
 
-pub place_none : (xs ys : Open) (o : Owner) → owner_place xs o ≡ None → owner_place ys o ≡ None → owner_place (xs ++ ys) o ≡ None
+pub place_none : (xs ys : OpenOwners) (o : Owner) → owner_place xs o ≡ None → owner_place ys o ≡ None → owner_place (xs ++ ys) o ≡ None
 place_none xs ys o h k = place_back xs ys o h ∙ ap (option_map (λ n. length xs + n)) k
 
-pub none_before : (xs ys : Open) (o : Owner) → owner_place (xs ++ ys) o ≡ None → owner_place xs o ≡ None
+pub none_before : (xs ys : OpenOwners) (o : Owner) → owner_place (xs ++ ys) o ≡ None → owner_place xs o ≡ None
 none_before xs ys o h = go (owner_place xs o) refl
   where
     go : (p : Option ℕ) → owner_place xs o ≡ p → owner_place xs o ≡ None
     go None e = e
     go (Some n) e = absurd (cc (place_front xs ys o n e, h))
 
-apart_more : (xs : Open) (o : Owner) (s : Node ℕ) → Apart xs → owner_place xs o ≡ None → Apart (xs ++ (o, s) ∷ [])
+apart_more : (xs : OpenOwners) (o : Owner) (s : Node ℕ) → OwnersDiffer xs → owner_place xs o ≡ None → OwnersDiffer (xs ++ (o, s) ∷ [])
 apart_more [] o s a h = (refl, tt)
 apart_more (x ∷ xs) o s a h =
     by_test (same_owner x.0 o) (λ t. absurd (cc (rw t at h)))
     (λ f. (place_none xs ((o, s) ∷ []) x.0 a.0 (rw (owner_turned o x.0 ∙ f) refl), apart_more xs o s a.1 (no_suc (owner_place xs o) (rw f at h))))
 
-pub apart_begun : (xs : Open) (own : Option ℕ) (o : Owner) (s : Node ℕ) → Apart xs → owner_place xs o ≡ None → Apart (xs ++ begun_by own o s)
-apart_begun xs None o s a h = subst Apart (sym (append-nil xs)) a
+pub apart_begun : (xs : OpenOwners) (own : Option ℕ) (o : Owner) (s : Node ℕ) → OwnersDiffer xs → owner_place xs o ≡ None → OwnersDiffer (xs ++ begun_by own o s)
+apart_begun xs None o s a h = subst OwnersDiffer (sym (append-nil xs)) a
 apart_begun xs (Some n) o s a h = apart_more xs o s a h
 
 -- an owner of an element has no place among those of elements around it
@@ -76,7 +76,7 @@ module _ (base : Chars) where
   pub placed_depth : (to : Numbering) (kept : Chars) (layers : List Layer) → LayersStand to base kept layers → (o : Owner) (n : ℕ) → owner_place (open_in base layers) o ≡ Some n → owner_depth o ≤ length layers
   placed_depth to kept layers h o n e = ⊎_elim (λ d. absurd (cc (e, deeper_none to kept layers h o d))) (λ d. omega (arith, d)) (cases_lt (length layers) (owner_depth o))
 
-  pub apart_open : (to : Numbering) (kept : Chars) (layers : List Layer) → LayersStand to base kept layers → Apart (open_in base layers)
+  pub apart_open : (to : Numbering) (kept : Chars) (layers : List Layer) → LayersStand to base kept layers → OwnersDiffer (open_in base layers)
   apart_open to kept [] h = (refl, tt)
   apart_open to kept (l ∷ lower) h =
       let k = h.0.deep in
@@ -108,7 +108,7 @@ frames_length (l ∷ lower) = let a = length-append (frames_in lower) (l.frame �
 -- what a child of the innermost element inherits
 pub handed_now : (to : Numbering) (base kept : Chars) (layers : List Layer) → LayersStand to base kept layers
     → rename_inherited Number Number (handed_on (page_context base) (frames_in layers))
-    ≡ rename_inherited (named to) (named (owner_place (open_in base layers))) (inherit model base (map (λ l. l.at) layers))
+    ≡ rename_inherited (numbered_name to) (numbered_name (owner_place (open_in base layers))) (inherit model base (map (λ l. l.at) layers))
 handed_now to base kept [] h = refl
 handed_now to base kept (l ∷ lower) h = ap (rename_inherited Number Number) (handed_last (page_context base) (frames_in lower) l.frame) ∙ h.0.context
 
@@ -129,23 +129,23 @@ marked kept more g l frames (inl q) h =
     none (Some t) e = absurd (cc)
 marked kept more g l frames (inr k) h = (IfSome_then l.frame.text h (λ t. k t.mark l.text), inr k)
 
-module _ (old new : Numbering) (grown : Grown old new) (base kept more : Chars) where
+module _ (old new : Numbering) (grown : KeepsNumbers old new) (base kept more : Chars) where
   -- an element with another text, inside the same ones
   pub layer_later : (l : Layer) (text : Chars) (xs ys : List Layer) → length xs ≡ length ys → path_in xs ≡ path_in ys → open_in base xs ≡ open_in base ys → IfSome l.frame.text (λ t. KeptAt more t.mark text)
       → LayerStands old base kept l xs → LayerStands new base more (record { at = l.at; text = text; frame = l.frame }) ys
   layer_later l text xs ys n p o k h = record {
     deep = h.deep ∙ ap suc n;
     inside = h.inside ∙ p;
-    context = subst (λ (x : Open). rename_inherited Number Number l.frame.context ≡ rename_inherited (named new) (named (owner_place ((x ++ own_in l) ++ under_in l))) (below model base l.at)) o
+    context = subst (λ (x : OpenOwners). rename_inherited Number Number l.frame.context ≡ rename_inherited (numbered_name new) (numbered_name (owner_place ((x ++ own_in l) ++ under_in l))) (below model base l.at)) o
         (inherited_later old new grown (owner_place (open_in base (l ∷ xs))) (owner_place (open_in base (l ∷ xs))) (grown_same (owner_place (open_in base (l ∷ xs)))) l.frame.context (below model base l.at) h.context);
-    own = subst (λ (x : Open). IfSome l.frame.own (λ n. n ≡ length x)) o h.own;
+    own = subst (λ (x : OpenOwners). IfSome l.frame.own (λ n. n ≡ length x)) o h.own;
     subject = IfSome_then l.frame.own h.subject (λ n e. node_later old new grown l.frame.context.subject (resources model base l.at).subject e);
-    under = subst (λ (x : Open). IfSome l.frame.below (λ n. n ≡ length (x ++ own_in l))) o h.under;
+    under = subst (λ (x : OpenOwners). IfSome l.frame.below (λ n. n ≡ length (x ++ own_in l))) o h.under;
     gathers = h.gathers;
-    said = λ chars. triples_later old new grown (said_of l.frame.text chars) (end_of model base l.at chars) (h.said chars);
+    said = λ chars. triples_later old new grown (text_triples l.frame.text chars) (end_of model base l.at chars) (h.said chars);
     value = IfSome_then l.frame.text h.value (λ t e chars. term_later old new grown (text_literal t.by chars) (value_at model base l.at chars) (e chars));
     marked = k;
-    places = subst (λ (x : Open). WithinOption (length ((x ++ own_in l) ++ under_in l)) (places_of l.frame.text)) o h.places;
+    places = subst (λ (x : OpenOwners). WithinOption (length ((x ++ own_in l) ++ under_in l)) (text_places l.frame.text)) o h.places;
   }
 
   pub layers_later : (layers : List Layer) → Marked kept more (λ t. t) (frames_in layers) → LayersStand old base kept layers → LayersStand new base more layers

@@ -1,5 +1,5 @@
 -- Other texts, and frames in which a rule for a text is written otherwise: the same elements stay open.
-use Rattle.rx_eval.proofs.Common.{◌≡◌, ◌∙◌, ℕ, suc, ◌⊎◌, inl, inr, Bool, true, false, List, [], ◌∷◌, ◌++◌, map, length, Some, refl, sym, ap, subst, subst₂, append_assoc, is_some, ◌||◌, by_test, read_text, if◌then◌else◌, Chars, Among, Path, Bnode, Owner, First, Of, Below, Standing, Machine, read, rename, text_literal, said_triples, Text, Frame, State, gathers_some, Inherited, handed_on, Numbering, Number, Slots, Open, owner_place, Waiter, FillUp, Layer, frames_in, path_in, paths_in, own_in, under_in, open_in, waiter_of, KeptAt, LayerStands, LayersStand, Coming, Pending, AllWaitFor, RunsBy, Phase, rename_term}
+use Rattle.rx_eval.proofs.Common.{◌≡◌, ◌∙◌, ℕ, suc, ◌⊎◌, inl, inr, Bool, true, false, List, [], ◌∷◌, ◌++◌, map, length, Some, refl, sym, ap, subst, subst₂, append_assoc, is_some, ◌||◌, by_test, read_text, if◌then◌else◌, Chars, Among, Path, Bnode, Owner, First, Of, Below, Standing, Machine, read, rename, text_literal, said_triples, Text, Frame, State, gathers_some, Inherited, handed_on, Numbering, Number, OwnedSlots, OpenOwners, owner_place, Waiter, FillUp, Layer, frames_in, path_in, paths_in, own_in, under_in, open_in, waiter_of, KeptAt, LayerStands, LayersStand, Coming, OwnerPending, AllWaitFor, RunsBy, RunsOrIsOver, rename_term}
 use Rattle.rx_eval.specs.declared.values.TextRule.{TextRule}
 use Rattle.rx_eval.proofs.NameLemmas.{grown_same}
 use Rattle.rx_eval.proofs.LayerLemmas.{Marked, marked, layer_later}
@@ -106,11 +106,11 @@ module _ (to : Numbering) (m : Machine Bnode Owner) (state : State) (more : Char
   abbrev state_now : State
   state_now = record state { frames = frames; kept = more }
 
-  module _ (layers : List Layer) (slots : Slots) (r : RunsBy to m state layers slots) where
+  module _ (layers : List Layer) (slots : OwnedSlots) (r : RunsBy to m state layers slots) where
     x : Relayered to state.base state.kept more g layers frames
     x = relayered to state.base state.kept more g layers frames (subst (λ (l : List Frame). AllAlike l frames) r.frames a)
 
-    pending_as : (o : Owner) → Pending x.now m.path m.next o → Pending layers m.path m.next o
+    pending_as : (o : Owner) → OwnerPending x.now m.path m.next o → OwnerPending layers m.path m.next o
     pending_as First h = tt
     pending_as (Of q) h = subst (λ (l : List Path). Coming m.path m.next q ⊎ Among l q) (sym x.paths) h
     pending_as (Below q) h = subst (λ (l : List Path). Coming m.path m.next q ⊎ Among l q) (sym x.paths) h
@@ -124,11 +124,11 @@ module _ (to : Numbering) (m : Machine Bnode Owner) (state : State) (more : Char
       path = r.path ∙ x.path;
       each = x.each (subst (Marked state.kept more g) r.frames k) r.each;
       by_names = r.by_names;
-      tables = subst₂ (λ (o : Open) (w : List Waiter). FillUp o w state.owners slots) x.owners x.waiters r.tables;
+      tables = subst₂ (λ (o : OpenOwners) (w : List Waiter). FillUp o w state.owners slots) x.owners x.waiters r.tables;
       waiting = subst (λ (p : List Path). AllWaitFor p slots) x.paths r.waiting;
       unmade = r.unmade;
       uncelled = λ o h. r.uncelled o (pending_as o h);
-      unbegun = λ o h e. r.unbegun o (pending_as o h) (ap (λ (y : Open). owner_place y o) x.owners ∙ e);
+      unbegun = λ o h e. r.unbegun o (pending_as o h) (ap (λ (y : OpenOwners). owner_place y o) x.owners ∙ e);
       out = r.out;
       rootless = λ e. ap texts_now (r.rootless (x.none e));
     }
@@ -137,12 +137,12 @@ module _ (to : Numbering) (m : Machine Bnode Owner) (state : State) (more : Char
   no_frames _ _ alike_none e = refl
   no_frames _ _ (alike_more f h xs ys b r) e = absurd (cc e)
 
-  pub phase_as : (b : Bool) → Phase b to m state → Phase b to (texts_now m) state_now
+  pub phase_as : (b : Bool) → RunsOrIsOver b to m state → RunsOrIsOver b to (texts_now m) state_now
   phase_as true p = record { numbers = p.numbers; frames = no_frames state.frames frames a p.frames; standings = p.standings; texts = ap (map g) p.texts; out = p.out }
   phase_as false p = record { layers = (x p.layers p.slots p.by).now; slots = p.slots; by = runs_as p.layers p.slots p.by }
 
 -- text is read
-pub text_read : (to : Numbering) (m : Machine Bnode Owner) (state : State) (chars : Chars) (b : Bool) → Phase b to m state → Phase b to (read chars m) (read_text chars state)
+pub text_read : (to : Numbering) (m : Machine Bnode Owner) (state : State) (chars : Chars) (b : Bool) → RunsOrIsOver b to m state → RunsOrIsOver b to (read chars m) (read_text chars state)
 text_read to m state chars =
     phase_as to m state (if gathers_some state.frames then state.kept ++ chars else state.kept) (λ t. t ++ chars) state.frames (all_same state.frames)
     (by_test (gathers_some state.frames) (λ t. inr (λ mark text k. rw t (longer mark text k))) inl)

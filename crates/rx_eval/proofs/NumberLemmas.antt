@@ -1,5 +1,5 @@
 -- Labels draw numbers for authors' blank nodes, and an element for its own new one.
-use Rattle.rx_eval.proofs.Common.{◌≡◌, ◌∙◌, ℕ, ◌+◌, ◌<◌, ◌≤◌, ◌^◌, ◌⊎◌, inl, inr, true, false, List, [], ◌∷◌, ◌++◌, length, Option, Some, None, bytes_eq, refl, sym, ap, arith, is_some, Chars, by_test, Among, false_unless, exact_texts, Path, Bnode, Author, Made, Cell, Owner, same_bnode, exact_bnodes, Numbered, number_of, draw, Numbering, Grown, with_number, Numbers}
+use Rattle.rx_eval.proofs.Common.{◌≡◌, ◌∙◌, ℕ, ◌+◌, ◌<◌, ◌≤◌, ◌^◌, ◌⊎◌, inl, inr, true, false, List, [], ◌∷◌, ◌++◌, length, Option, Some, None, bytes_eq, refl, sym, ap, arith, is_some, Chars, by_test, Among, false_unless, exact_texts, Path, Bnode, Author, Made, Cell, Owner, same_bnode, exact_bnodes, Numbered, label_number, draw, Numbering, KeepsNumbers, with_number, Numbers}
 use Rattle.rx_eval.proofs.NameLemmas.{grown_same, grown_then}
 
 pub some_is : (o : Option ℕ) → is_some o ≡ true → (n : ℕ) × (o ≡ Some n)
@@ -20,7 +20,7 @@ raised n drawn more cells more_cells a b (inr x) = inr (x.0, omega (arith, x.1, 
 -- each number is one of the new ones, which are no others' and within the bounds, or was there
 pub numbers_more : (to now : Numbering) (New : Bnode → ℕ → Type 0) (labels labels' : Numbered) (drawn drawn' cells cells' : ℕ) → Numbers to labels drawn cells → ((b : Bnode) (n : ℕ) → now b ≡ Some n → New b n ⊎ (to b ≡ Some n))
     → ((a b : Bnode) (n : ℕ) → New a n → New b n → a ≡ b) → ((b : Bnode) (n : ℕ) → New b n → ¬ ((n < drawn) ⊎ ((2 ^ 61 ≤ n) × (n < cells)))) → ((b : Bnode) (n : ℕ) → New b n → (n < drawn') ⊎ ((2 ^ 61 ≤ n) × (n < cells')))
-    → ((l : Chars) → now (Author l) ≡ number_of labels' l) → drawn ≤ drawn' → cells ≤ cells' → drawn' ≤ 2 ^ 61 → Numbers now labels' drawn' cells'
+    → ((l : Chars) → now (Author l) ≡ label_number labels' l) → drawn ≤ drawn' → cells ≤ cells' → drawn' ≤ 2 ^ 61 → Numbers now labels' drawn' cells'
 numbers_more to now New labels labels' drawn drawn' cells cells' h from once free within label a b room = record {
   label = label;
   bounded = λ x n e. bound x n (from x n e);
@@ -46,7 +46,7 @@ module _ (to : Numbering) (new : Bnode) (k : ℕ) where
   pub at_other : (b : Bnode) → ¬ (b ≡ new) → with_number to new k b ≡ to b
   at_other b h = rw (false_unless (same_bnode b new) (λ e. h ((exact_bnodes b new).0 e))) refl
 
-  pub grown_with : to new ≡ None → Grown to (with_number to new k)
+  pub grown_with : to new ≡ None → KeepsNumbers to (with_number to new k)
   grown_with free = record { keeps = λ a n e. at_other a (λ q. absurd (cc (ap to q, free, e))) ∙ e }
 
   numbered_now : (b : Bnode) (n : ℕ) → with_number to new k b ≡ Some n → ((b ≡ new) × (k ≡ n)) ⊎ (to b ≡ Some n)
@@ -55,7 +55,7 @@ module _ (to : Numbering) (new : Bnode) (k : ℕ) where
       (λ f. inr (rw f at h))
 
   pub numbers_with : (labels labels' : Numbered) (drawn cells after : ℕ) → Numbers to labels drawn cells → drawn ≤ k → k < after → after ≤ 2 ^ 61
-      → ((l : Chars) → with_number to new k (Author l) ≡ number_of labels' l) → Numbers (with_number to new k) labels' after cells
+      → ((l : Chars) → with_number to new k (Author l) ≡ label_number labels' l) → Numbers (with_number to new k) labels' after cells
   numbers_with labels labels' drawn cells after h lo hi room label =
       numbers_more to (with_number to new k) (λ b n. (b ≡ new) × (k ≡ n)) labels labels' drawn after cells cells h numbered_now (λ a b n p q. p.0 ∙ sym q.0) (λ b n q. clash n q.1)
       (λ b n q. inl (omega (arith, q.1, hi))) label (omega (arith, lo, hi)) (omega arith) room
@@ -66,28 +66,28 @@ module _ (to : Numbering) (new : Bnode) (k : ℕ) where
 
 -- ---- labels
 
-number_more : (labels : Numbered) (x : Chars) (k : ℕ) (l : Chars) → number_of labels x ≡ None → ¬ (l ≡ x) → number_of (labels ++ (x, k) ∷ []) l ≡ number_of labels l
+number_more : (labels : Numbered) (x : Chars) (k : ℕ) (l : Chars) → label_number labels x ≡ None → ¬ (l ≡ x) → label_number (labels ++ (x, k) ∷ []) l ≡ label_number labels l
 number_more [] x k l h n = rw (false_unless (bytes_eq x l) (λ e. n (sym ((exact_texts x l).0 e)))) refl
 number_more (row ∷ labels) x k l h n =
     by_test (bytes_eq row.0 l) (λ t. rw t refl)
     (λ f. rw f (number_more labels x k l (by_test (bytes_eq row.0 x) (λ t. absurd (cc (rw t at h))) (λ g. rw g at h)) n))
 
-number_new : (labels : Numbered) (x : Chars) (k : ℕ) → number_of labels x ≡ None → number_of (labels ++ (x, k) ∷ []) x ≡ Some k
+number_new : (labels : Numbered) (x : Chars) (k : ℕ) → label_number labels x ≡ None → label_number (labels ++ (x, k) ∷ []) x ≡ Some k
 number_new [] x k h = rw ((exact_texts x x).1 refl) refl
 number_new (row ∷ labels) x k h =
     by_test (bytes_eq row.0 x) (λ t. absurd (cc (rw t at h))) (λ f. rw f (number_new labels x k (rw f at h)))
 
-label_is : (to : Numbering) (labels : Numbered) (x : Chars) (k : ℕ) → ((l : Chars) → to (Author l) ≡ number_of labels l) → number_of labels x ≡ None
-    → (l : Chars) → with_number to (Author x) k (Author l) ≡ number_of (labels ++ (x, k) ∷ []) l
+label_is : (to : Numbering) (labels : Numbered) (x : Chars) (k : ℕ) → ((l : Chars) → to (Author l) ≡ label_number labels l) → label_number labels x ≡ None
+    → (l : Chars) → with_number to (Author x) k (Author l) ≡ label_number (labels ++ (x, k) ∷ []) l
 label_is to labels x k h free l =
     by_test (bytes_eq l x)
-    (λ t. rw t (sym (ap (number_of (labels ++ (x, k) ∷ [])) ((exact_texts l x).0 t) ∙ number_new labels x k free)))
+    (λ t. rw t (sym (ap (label_number (labels ++ (x, k) ∷ [])) ((exact_texts l x).0 t) ∙ number_new labels x k free)))
     (λ f. rw f (h l ∙ sym (number_more labels x k l free (λ e. absurd (cc (f, (exact_texts l x).1 e))))))
 
 -- the labels have numbers, and no other names have drawn any
 pub record Drew (to : Numbering) (labels : Numbered) (next cells : ℕ) (list : List Chars) : Type 0 where
   pub now : Numbering
-  pub grown : Grown to now
+  pub grown : KeepsNumbers to now
   pub numbers : Numbers now (draw labels next list).0 (draw labels next list).1 cells
   pub made : (r : Path) → now (Made r) ≡ to (Made r)
   pub cell : (o : Owner) (p : Chars) (i : ℕ) → now (Cell o p i) ≡ to (Cell o p i)
@@ -103,10 +103,10 @@ drew [] to labels next cells h room = record {
   has = λ l a. absurd a;
 }
 drew (x ∷ list) to labels next cells h room =
-    by_test (is_some (number_of labels x))
+    by_test (is_some (label_number labels x))
     (λ t.
     let d = drew list to labels next cells h (omega (arith, room)) in
-    let n = some_is (number_of labels x) t in
+    let n = some_is (label_number labels x) t in
     record {
       now = d.now;
       grown = d.grown;
@@ -116,7 +116,7 @@ drew (x ∷ list) to labels next cells h room =
       has = λ l a. known d l n a;
     })
     (λ f.
-    let free = none_is (number_of labels x) f in
+    let free = none_is (label_number labels x) f in
     let to' : Numbering = with_number to (Author x) next in
     let h' = numbers_with to (Author x) next labels (labels ++ (x, next) ∷ []) next cells (next + 1) h (omega arith) (omega arith) (omega (arith, room)) (label_is to labels x next h.label free) in
     let d = drew list to' (labels ++ (x, next) ∷ []) (next + 1) cells h' (omega (arith, room)) in
@@ -129,8 +129,8 @@ drew (x ∷ list) to labels next cells h room =
       has = λ l a. fresh d l a;
     })
   where
-    known : (d : Drew to labels next cells list) (l : Chars) → (n : ℕ) × (number_of labels x ≡ Some n) → (x ≡ l) ⊎ Among list l → (n : ℕ) × (d.now (Author l) ≡ Some n)
-    known d l n (inl e) = (n.0, d.grown.keeps (Author l) n.0 (h.label l ∙ ap (number_of labels) (sym e) ∙ n.1))
+    known : (d : Drew to labels next cells list) (l : Chars) → (n : ℕ) × (label_number labels x ≡ Some n) → (x ≡ l) ⊎ Among list l → (n : ℕ) × (d.now (Author l) ≡ Some n)
+    known d l n (inl e) = (n.0, d.grown.keeps (Author l) n.0 (h.label l ∙ ap (label_number labels) (sym e) ∙ n.1))
     known d l n (inr a) = d.has l a
 
     fresh : (d : Drew (with_number to (Author x) next) (labels ++ (x, next) ∷ []) (next + 1) cells list) (l : Chars) → (x ≡ l) ⊎ Among list l → (n : ℕ) × (d.now (Author l) ≡ Some n)

@@ -1,6 +1,6 @@
 -- An element by two namings that differ only in names for which it isn't asked: that of a new node which it doesn't make,
 -- and those of owners which it doesn't begin.
-use Rattle.rx_eval.proofs.Common.{option_or, Chars, and_left, Node, Iri, Blank, Term, Resource, same_node, then_some, Path, Naming, Facts, listed, hangs, object_below, own_owner, hanging_of, owner_below, handed, Entry, entry, linked, awaited, entries_by, ◌≡◌, ◌∙◌, ◌⊎◌, inl, inr, ℕ, zero, suc, length, arith, Bool, true, false, cond, List, [], ◌∷◌, ◌++◌, map, filter_map, Option, Some, None, option_map, is_none, refl, ap, ap₂, not, ◌&&◌, ◌||◌, is_some, unwrap_or, Hanging, Forward, Reverse, InList, Standing, Resources, resource_named, has_link, is_plain_property, is_root, is_root_child, is_head_or_body, only, about, linked_resource, base_at_root, default_subject, new_blank, of_property, of_no_link, of_link, level_at, path_at}
+use Rattle.rx_eval.proofs.Common.{option_or, Chars, and_left, Node, Iri, Blank, Term, Resource, same_node, then_some, Path, Naming, Facts, listed, hangs, object_below, own_owner, hanging_of, owner_below, handed, ListEntry, entry, linked, awaited, entries_by, ◌≡◌, ◌∙◌, ◌⊎◌, inl, inr, ℕ, zero, suc, length, arith, Bool, true, false, cond, List, [], ◌∷◌, ◌++◌, map, filter_map, Option, Some, None, option_map, is_none, refl, ap, ap₂, not, ◌&&◌, ◌||◌, is_some, unwrap_or, Hanging, Forward, Reverse, InList, Standing, Resources, resource_named, has_link, is_plain_property, is_root, is_root_child, is_head_or_body, only, about, linked_resource, base_at_root, default_subject, new_blank, of_property, of_no_link, of_link, level_at, path_at}
 use Rattle.rx_rdfa.specs.Resources.{resources}
 
 -- ---- options of which the last isn't asked, or is what is had
@@ -165,7 +165,7 @@ module _ {B O : Type 0} (n : Naming B O) (base : Chars) (at : Standing B O) wher
         awaited_same [] = refl
         awaited_same (Forward q ∷ hanging) = awaited_same hanging
         awaited_same (Reverse q ∷ hanging) = awaited_same hanging
-        awaited_same (InList w q ∷ hanging) = ap (λ (l : List (Entry O T)). entry w (Some (full (Resource here.subject))) q ∷ l) (awaited_same hanging)
+        awaited_same (InList w q ∷ hanging) = ap (λ (l : List (ListEntry O T)). entry w (Some (full (Resource here.subject))) q ∷ l) (awaited_same hanging)
 
         entries_if : (b : Bool) → here.skipped ≡ b → entries_by (other n c o p) full v at here ≡ entries_by n full v at here
         entries_if true e = rw e refl

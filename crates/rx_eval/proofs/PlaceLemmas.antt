@@ -1,9 +1,9 @@
 -- Places in lists: one that is there stays where it is when lists grow.
-use Rattle.rx_eval.proofs.Common.{◌≡◌, ◌∙◌, ℕ, zero, suc, List, [], ◌∷◌, ◌++◌, map, Option, Some, None, option_to_list, bytes_eq, refl, sym, ap, ap₂, arith, length-append, length-set, set-append_left, Chars, by_test, set-append_seam, Term, entry, Table, put, SlotId, Entries, Owning, owning, lists_in, open_seen, list_place, item_count, next_place, places_for, put_at, put_entries, with_item, fill_seen, fill_all, HasItem, HasPlace}
+use Rattle.rx_eval.proofs.Common.{◌≡◌, ◌∙◌, ℕ, zero, suc, List, [], ◌∷◌, ◌++◌, map, Option, Some, None, option_to_list, bytes_eq, refl, sym, ap, ap₂, arith, length-append, length-set, set-append_left, Chars, by_test, set-append_seam, Term, entry, PredicateTable, put, SlotId, Entries, Owning, owning, lists_in, open_seen, list_place, item_count, next_slot, places_for, put_at, put_entries, with_item, fill_seen, fill_all, HasItem, HasPlace}
 use Rattle.rx_eval.specs.Reserving.{ReservedAreFilled}
 
 abbrev Items : Type 0
-Items = Table (Option (Term ℕ))
+Items = PredicateTable (Option (Term ℕ))
 
 -- ---- in one table
 
@@ -95,7 +95,7 @@ places_same m [] n l i v os h = refl
 places_same m (p ∷ ps) n l i v os h =
     ap₂ (λ (a b : ℕ). record { owner = record { 0 = m }; list = a; place = b } ∷ places_for m ps (put_at m p (Some None) (fill_in n l i v os)))
     (same_in (list_place p) (λ l i v t. (same_next p l i v t).0) m n l i v os) (same_in (item_count p) (λ l i v t. (same_next p l i v t).1) m n l i v os)
-    ∙ ap (λ (x : List SlotId). next_place m p os ∷ x)
+    ∙ ap (λ (x : List SlotId). next_slot m p os ∷ x)
     (ap (places_for m ps) (sym (fill_past m p (Some None) n l i v os h)) ∙ places_same m ps n l i v (put_at m p (Some None) os) (still_at m p (Some None) n l i os h))
 
 pub fill_past_all : (entries : Entries) (n l i : ℕ) (v : Term ℕ) (os : Many) → HasPlace n l i os → fill_in n l i v (put_entries entries os) ≡ put_entries entries (fill_in n l i v os)

@@ -1,5 +1,5 @@
 -- An element that says no more than what it refers to, where it may wait: what it opens and ends.
-use Rattle.rx_eval.proofs.Common.{◌≡◌, ◌∙◌, ◌<◌, ◌-◌, ◌+◌, ℕ, suc, Bool, true, false, List, [], ◌∷◌, ◌++◌, length, Option, Some, None, refl, sym, ap, ap₂, subst, append-nil, append_assoc, length-append, arith, ◌||◌, ◌==◌, is_some, if◌then◌else◌, nat_eq, filter_map, nat_tests, Chars, by_test, resolved, node_seen, Node, Iri, Blank, Term, Triple, same_node, Naming, Facts, Ref, IriRef, LabelRef, RelativeRef, rule, value_now, Ending, Closes, ending, end_owner, cells_count, start_at, lists_at, owner_begun, begun_seen, gathers_some, Numbered, moment, handed_on, skipped_state, read_text, Opens, drawn_after, Owning, owning, cells_seen, ended_by, ended, forgotten_seen, level_at, standing_by, says_no_more, reference_in, only_reference, referring_context, referring_frame, referred_by, with_pending, is_iri, LetsWait, MayWait, IsKept, skipped_frame, skipped_frames, State, Frame, Hanging, Inherited, Standing, Resources, properties_by, completed, Shows, add-one}
+use Rattle.rx_eval.proofs.Common.{◌≡◌, ◌∙◌, ◌<◌, ◌-◌, ◌+◌, ℕ, suc, Bool, true, false, List, [], ◌∷◌, ◌++◌, length, Option, Some, None, refl, sym, ap, ap₂, subst, append-nil, append_assoc, length-append, arith, ◌||◌, ◌==◌, is_some, if◌then◌else◌, nat_eq, filter_map, nat_tests, Chars, by_test, resolved, node_seen, Node, Iri, Blank, Term, Triple, same_node, Naming, Facts, Ref, IriRef, LabelRef, RelativeRef, rule, value_now, Ending, Closes, ending, end_owner, cells_count, start_at, lists_at, owner_begun, begun_seen, gathers_some, Numbered, moment, handed_on, skipped_state, read_text, Opens, drawn_after, Owning, owning, cells_seen, ended_by, trimmed_owners, forgotten_seen, level_at, standing_by, says_no_more, reference_in, only_reference, referring_context, referring_frame, referred_by, with_pending, is_iri_node, LetsWait, MayWait, PendingMayWait, skipped_frame, skipped_frames, State, Frame, Hanging, Inherited, Standing, Resources, properties_by, completed, ShowsContext, add-one}
 use Rattle.rx_rdfa.specs.Resources.{resources}
 use Rattle.rx_rdfa.specs.Inherited.{below}
 use Rattle.rx_rdfa.specs.Element.{start_of}
@@ -79,7 +79,7 @@ opens_referring old facts reference o e = by_test (says_no_more facts) (λ t. al
 -- ---- its frame among the others
 
 -- no number is drawn inside
-draws_none : (around : Inherited ℕ ℕ) (n : ℕ) (subject : Node ℕ) (drawn : ℕ) → is_iri subject ≡ true → drawn ≡ drawn_after (referring_context around n subject) drawn
+draws_none : (around : Inherited ℕ ℕ) (n : ℕ) (subject : Node ℕ) (drawn : ℕ) → is_iri_node subject ≡ true → drawn ≡ drawn_after (referring_context around n subject) drawn
 draws_none around n (Iri iri) drawn h = refl
 draws_none around n (Blank b) drawn h = absurd (cc h)
 
@@ -118,7 +118,7 @@ module _ (node : Node ℕ) (old : State) where
       ∙ ap (λ (c : Inherited ℕ ℕ). frames n ++ skipped_frame c ∷ []) (sym (hands_referring n))
 
   -- one more in it of which nothing is said
-  pub skips_referring : is_iri node ≡ true → (n : ℕ) → referred_by node (suc n) old ≡ skipped_state (referred_by node n old)
+  pub skips_referring : is_iri_node node ≡ true → (n : ℕ) → referred_by node (suc n) old ≡ skipped_state (referred_by node n old)
   skips_referring h n =
       ap₂ (λ (fs : List Frame) (d : ℕ). record (referred_by node n old) { frames = fs; drawn = d }) (more_frames n)
       (draws_none around (length old.owners) node old.drawn h ∙ ap (λ (c : Inherited ℕ ℕ). drawn_after c old.drawn) (sym (hands_referring n)))
@@ -139,11 +139,11 @@ module _ (node : Node ℕ) (old : State) where
 
 -- ---- its own lists
 
-last_gone : (xs : List (Option Owning)) (x : Option Owning) → forgotten_seen (xs ++ x ∷ []) (length xs) ≡ ended xs
+last_gone : (xs : List (Option Owning)) (x : Option Owning) → forgotten_seen (xs ++ x ∷ []) (length xs) ≡ trimmed_owners xs
 last_gone [] x = refl
 last_gone (y ∷ xs) x = ap (ended_by y) (last_gone xs x)
 
-ends_nothing : (subject other : Node ℕ) (out : List (Triple ℕ)) (owners : List (Option Owning)) (cells : ℕ) → ended owners ≡ owners
+ends_nothing : (subject other : Node ℕ) (out : List (Triple ℕ)) (owners : List (Option Owning)) (cells : ℕ) → trimmed_owners owners ≡ owners
     → ending out owners cells ≡ end_owner (owner_begun subject other (length owners)) (ending out (begun_seen subject other owners) cells)
 ends_nothing subject other out owners cells e = by_test (same_node nat_eq subject other) (λ t. rw t refl) (λ f. rw f begun)
   where
@@ -169,7 +169,7 @@ closes_referring subject old w =
 -- ---- the element that waits
 
 module _ (w : Option Pending) (p : Pending) (s : State) (e : w ≡ Some p) where
-  module _ (k : IsKept w s) where
+  module _ (k : PendingMayWait w s) where
     waits : MayWait (node_seen p.subject) p.inside s
     waits = rw e at k
 
@@ -193,9 +193,9 @@ module _ (w : Option Pending) (p : Pending) (s : State) (e : w ≡ Some p) where
   count_waits d h = rw e (omega (arith, h, count_referring (node_seen p.subject) s p.inside))
 
   pub shows_waits : (shown : Shown) → node_seen shown.subject.now ≡ node_seen p.subject → node_seen shown.object.now ≡ node_seen p.subject → waits_in shown ≡ []
-      → Shows shown (handed_on (with_pending w s).page (with_pending w s).frames)
+      → ShowsContext shown (handed_on (with_pending w s).page (with_pending w s).frames)
   shows_waits shown a b h =
-      rw e (subst (Shows shown) (sym (hands_referring (node_seen p.subject) s p.inside)) (record { subject = a; object = b; hanging = h }))
+      rw e (subst (ShowsContext shown) (sym (hands_referring (node_seen p.subject) s p.inside)) (record { subject = a; object = b; hanging = h }))
 
 -- ---- what the state with it has of the state
 

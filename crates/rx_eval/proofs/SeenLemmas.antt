@@ -1,5 +1,5 @@
 -- What is put into the code's lists, as the rules see it.
-use Rattle.rx_eval.proofs.Common.{◌≡◌, ◌∙◌, ℕ, Bool, zero, suc, List, [], ◌∷◌, ◌++◌, map, filter_map, Option, Some, None, option_map, option_to_list, slice_set, bytes_eq, refl, sym, ap, ap₂, length, drop, ◌≤◌, slice_index_or, if◌then◌else◌, map-append, length-map, map-set, Chars, by_test, Term, node_seen, term_seen, put, entry, Owned, Owners, changed, with_term, itself, open_at, place_of, slots_of, trimmed, trimmed_by, forgotten, lists_of, cells_count, SlotId, waiting_seen, term_of, resource_term, put_each, put_awaited, slots_for, Owning, owning, slots_seen, owning_seen, owners_seen, put_at, put_entries, with_item, open_seen, lists_in, list_place, item_count, next_place, places_for, fill_seen, fill_all, cells_seen, ended_by, ended, forgotten_seen, Entries, awaited_entry}
+use Rattle.rx_eval.proofs.Common.{◌≡◌, ◌∙◌, ℕ, Bool, zero, suc, List, [], ◌∷◌, ◌++◌, map, filter_map, Option, Some, None, option_map, option_to_list, slice_set, bytes_eq, refl, sym, ap, ap₂, length, drop, ◌≤◌, slice_index_or, if◌then◌else◌, map-append, length-map, map-set, Chars, by_test, Term, node_seen, term_seen, put, entry, Owned, Owners, changed, with_term, itself, open_at, place_of, slots_of, trimmed_tail, trimmed_by, forgotten, lists_of, cells_count, SlotId, waiting_seen, term_of, resource_term, put_each, put_awaited, slots_for, Owning, owning, slots_seen, owning_seen, owners_seen, put_at, put_entries, with_item, open_seen, lists_in, list_place, item_count, next_slot, places_for, fill_seen, fill_all, cells_seen, ended_by, trimmed_owners, forgotten_seen, Entries, awaited_entry}
 use Rattle.rx_terms.specs.declared.triples.Node.{Node as CodeNode}
 use Rattle.rx_terms.specs.declared.triples.Term.{Term as CodeTerm}
 use Rattle.rx_lists.specs.Owners.{Slots}
@@ -85,7 +85,7 @@ lists_are : (o : Option Owned) → slots_seen (lists_of o) ≡ lists_in (option_
 lists_are None = refl
 lists_are (Some o) = refl
 
-next_is : (owner : Owner) (p : Chars) (owners : Owners) → slot_in owner p (lists_of (open_at owners owner.0)) ≡ next_place owner.0 p (owners_seen owners)
+next_is : (owner : Owner) (p : Chars) (owners : Owners) → slot_in owner p (lists_of (open_at owners owner.0)) ≡ next_slot owner.0 p (owners_seen owners)
 next_is owner p owners =
     let l : slots_seen (lists_of (open_at owners owner.0)) ≡ lists_in (open_seen (owners_seen owners) owner.0) =
     lists_are (open_at owners owner.0) ∙ ap lists_in (open_is owners owner.0) in
@@ -153,12 +153,12 @@ ended_one : (o : Option Owned) (owners : Owners) → owners_seen (trimmed_by o o
 ended_one None (o ∷ more) = refl
 ended_one _ _ = refl
 
-pub ended_are : (owners : Owners) → owners_seen (trimmed owners) ≡ ended (owners_seen owners)
+pub ended_are : (owners : Owners) → owners_seen (trimmed_tail owners) ≡ trimmed_owners (owners_seen owners)
 ended_are [] = refl
-ended_are (o ∷ owners) = ended_one o (trimmed owners) ∙ ap (ended_by (option_map owning_seen o)) (ended_are owners)
+ended_are (o ∷ owners) = ended_one o (trimmed_tail owners) ∙ ap (ended_by (option_map owning_seen o)) (ended_are owners)
 
 pub seen_forgotten : (old new : Owners) (n : ℕ) → new ≡ forgotten old n → owners_seen new ≡ forgotten_seen (owners_seen old) n
-seen_forgotten old new n h = ap owners_seen h ∙ ended_are (slice_set old n None) ∙ ap ended (map-set (option_map owning_seen) old n None)
+seen_forgotten old new n h = ap owners_seen h ∙ ended_are (slice_set old n None) ∙ ap trimmed_owners (map-set (option_map owning_seen) old n None)
 
 pub all_filled : (slots : List SlotId) (i : ℕ) (t : CodeTerm) (now whole : Owners) → length slots ≤ i → filled_in (drop i slots) t now ≡ whole → now ≡ whole
 all_filled slots i t now whole h e = ap (λ (l : List SlotId). filled_in l t now) (sym (nothing_left i slots h)) ∙ e

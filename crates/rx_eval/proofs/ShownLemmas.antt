@@ -1,5 +1,5 @@
 -- What is shown of the frames is what the rules hand on.
-use Rattle.rx_eval.proofs.Common.{◌≡◌, ◌∙◌, List, [], ◌∷◌, map, refl, sym, ap, ap₂, rename_node, Bnode, Owner, Call, rename_hanging, State, handed_on, Numbering, Name, Number, named, EvaluatorStands, context_after, wait_by, Shows}
+use Rattle.rx_eval.proofs.Common.{◌≡◌, ◌∙◌, List, [], ◌∷◌, map, refl, sym, ap, ap₂, rename_node, Bnode, Owner, Call, rename_hanging, State, handed_on, Numbering, Name, Number, numbered_name, EvaluatorStands, context_after, wait_by, ShowsContext}
 use Rattle.rx_eval.specs.declared.inherited.Inherited.{Inherited}
 use Rattle.rx_eval.specs.Shown.{ShowsAfter}
 use Rattle.rx_eval.proofs.StandLemmas.{hands_on}
@@ -13,7 +13,7 @@ waits_same : {O P : Type 0} (g : O → P) (hs : List (rules.Hanging O)) → map 
 waits_same g [] = refl
 waits_same g (h ∷ hs) = ap₂ ◌∷◌ (wait_same g h) (waits_same g hs)
 
-pub shows_after : (to : Numbering) (list : List Call) (state : State) (shown : Inherited) → Shows shown (handed_on state.page state.frames) → EvaluatorStands to list state → ShowsAfter to state.base list shown
+pub shows_after : (to : Numbering) (list : List Call) (state : State) (shown : Inherited) → ShowsContext shown (handed_on state.page state.frames) → EvaluatorStands to list state → ShowsAfter to state.base list shown
 shows_after to list state shown s h =
     let k = hands_on to list state h in
     record {
@@ -21,5 +21,5 @@ shows_after to list state shown s h =
       object = ap (rename_node Number) s.object ∙ ap (λ (x : rules.Inherited (Name Bnode) (Name Owner)). x.object) k.path;
       hanging =
           s.hanging ∙ sym (waits_same Number (handed_on state.page state.frames).hanging)
-          ∙ ap (λ (x : rules.Inherited (Name Bnode) (Name Owner)). map wait_by x.hanging) k.path ∙ waits_same (named k.own) (context_after state.base list).hanging;
+          ∙ ap (λ (x : rules.Inherited (Name Bnode) (Name Owner)). map wait_by x.hanging) k.path ∙ waits_same (numbered_name k.own) (context_after state.base list).hanging;
     }

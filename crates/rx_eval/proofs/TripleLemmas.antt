@@ -1,7 +1,7 @@
 -- Triples that are added one after another.
 use Rattle.rx_eval.proofs.Common.{◌≡◌, ◌∙◌, ℕ, zero, suc, ◌+◌, ◌≤◌, arith, List, [], ◌∷◌, ◌++◌, map, length, drop, Some, slice_get, refl, sym, ap, append-nil, add-one, Result, on_ok_weaker, Chars, OnOk, Node, Term, Triple, spo, to_node, Ref, IriRef, resource_named, ref_seen, refs_seen, Numbered, moment, resource_term, ToCome, rdf_type, types_of}
 use Rattle.rx_curie.specs.declared.refs.Ref.{Ref as CodeRef}
-use Rattle.rx_eval.specs.Places.{named}
+use Rattle.rx_eval.specs.Places.{named_node}
 use Rattle.rx_eval.proofs.GrowLemmas.{one_came}
 use Rattle.rx_eval.proofs.DrawLemmas.{drop_at, nothing_left}
 
@@ -42,7 +42,7 @@ same_named labels f base (IriRef iri) = refl
 same_named labels f base _ = refl
 
 pub type_came : (labels : Numbered) (f : ℕ) (base predicate : Chars) (typed : Node ℕ) (types : List CodeRef) (i : ℕ) (x : CodeRef) (node : Node ℕ) (term : Term ℕ) (out more whole : List (Triple ℕ))
-    → slice_get types i ≡ Some x → predicate ≡ rdf_type → node ≡ named labels base (ref_seen x) → term ≡ resource_term node → more ≡ out ++ spo typed predicate term ∷ []
+    → slice_get types i ≡ Some x → predicate ≡ rdf_type → node ≡ named_node labels base (ref_seen x) → term ≡ resource_term node → more ≡ out ++ spo typed predicate term ∷ []
     → ToCome out (types_of (moment labels f 0 0) base typed (refs_seen (drop i types))) whole → ToCome more (types_of (moment labels f 0 0) base typed (refs_seen (drop (i + 1) types))) whole
 type_came labels f base predicate typed types i x node term out more whole g p n t m w =
     one_came out more whole _ _ (to_node typed rdf_type (resource_named (moment labels f 0 0) base (ref_seen x)))

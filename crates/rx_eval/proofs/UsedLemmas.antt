@@ -1,6 +1,6 @@
 -- The number of a new node, and the owners that an element begins.
 use Rattle.rx_eval.proofs.EnterLemmas.{below_as}
-use Rattle.rx_eval.proofs.Common.{untrue, by_test, IfSome, if◌then◌else◌, option_or, Decides-eqb, Chars, then_some, Node, Blank, Term, same_node, or_cases, and_left, and_right, Path, Naming, Owner, same_owner, Facts, of_owner, entries_by, ◌≡◌, ◌∙◌, ℕ, suc, ◌+◌, ◌≤◌, ◌⊎◌, inl, inr, Bool, true, false, List, [], ◌∷◌, ◌++◌, length, Option, Some, None, is_none, nat_eq, refl, sym, ap, subst, arith, append-nil, length-append, not, ◌&&◌, ◌||◌, ◌==◌, unwrap_or, or-true, Inherited, Standing, Resources, new_blank, hangs, object_below, handed, Numbered, moment, level_at, path_at, standing_by, Owning, owning, put_entries, drawn_after, next_number, owner_begun, owner_for, begun_for, owners_begun, Slots, Open, Waiter, FillUp, Within, begun_by}
+use Rattle.rx_eval.proofs.Common.{untrue, by_test, IfSome, if◌then◌else◌, option_or, Decides-eqb, Chars, then_some, Node, Blank, Term, same_node, or_cases, and_left, and_right, Path, Naming, Owner, same_owner, Facts, of_owner, entries_by, ◌≡◌, ◌∙◌, ℕ, suc, ◌+◌, ◌≤◌, ◌⊎◌, inl, inr, Bool, true, false, List, [], ◌∷◌, ◌++◌, length, Option, Some, None, is_none, nat_eq, refl, sym, ap, subst, arith, append-nil, length-append, not, ◌&&◌, ◌||◌, ◌==◌, unwrap_or, or-true, Inherited, Standing, Resources, new_blank, hangs, object_below, handed, Numbered, moment, level_at, path_at, standing_by, Owning, owning, put_entries, drawn_after, next_number, owner_begun, owner_for, begun_for, owners_begun, OwnedSlots, OpenOwners, Waiter, FillUp, Within, begun_by}
 use Rattle.rx_rdfa.specs.Resources.{resources}
 use Rattle.rx_rdfa.specs.Inherited.{below}
 use Rattle.rx_eval.specs.Blanks.{is_blank}
@@ -78,12 +78,12 @@ module _ (M : Naming ℕ ℕ) (at : Standing ℕ ℕ) (here : Resources ℕ) (n 
   lists_as v = by_test here.skipped (λ t. rw (o, u, t) refl)
       (λ f. ap (λ (b : Bool). if b then owners else put_entries (entries_by M Some v at here) (owners_begun M at here owners)) f ∙ ap (put_entries (entries_by M Some v at here)) (begun_now f))
 
-pub with_fill_up : (open_owners : Open) (own : Option ℕ) (o : Owner) (s : Node ℕ) (waiters : List Waiter) (owners : Many) (slots : Slots) → of_owner same_owner o slots ≡ [] → Within (length owners) waiters → FillUp open_owners waiters owners slots
+pub with_fill_up : (open_owners : OpenOwners) (own : Option ℕ) (o : Owner) (s : Node ℕ) (waiters : List Waiter) (owners : Many) (slots : OwnedSlots) → of_owner same_owner o slots ≡ [] → Within (length owners) waiters → FillUp open_owners waiters owners slots
     → FillUp (open_owners ++ begun_by own o s) waiters (with_owner own s owners) slots
-with_fill_up open_owners None o s waiters owners slots e b h = subst (λ (x : Open). FillUp x waiters owners slots) (sym (append-nil open_owners)) h
+with_fill_up open_owners None o s waiters owners slots e b h = subst (λ (x : OpenOwners). FillUp x waiters owners slots) (sym (append-nil open_owners)) h
 with_fill_up open_owners (Some n) o s waiters owners slots e b h = (fill_up_both open_owners o s [] tt waiters owners slots e b).0 h
 
-pub with_length : (open_owners : Open) (own : Option ℕ) (o : Owner) (s t : Node ℕ) (owners : Many) → length owners ≡ length open_owners → length (with_owner own s owners) ≡ length (open_owners ++ begun_by own o t)
+pub with_length : (open_owners : OpenOwners) (own : Option ℕ) (o : Owner) (s t : Node ℕ) (owners : Many) → length owners ≡ length open_owners → length (with_owner own s owners) ≡ length (open_owners ++ begun_by own o t)
 with_length open_owners None o s t owners e = e ∙ ap length (sym (append-nil open_owners))
 with_length open_owners (Some n) o s t owners e =
     let a = length-append owners (Some (owning s []) ∷ []) in let b = length-append open_owners ((o, t) ∷ []) in omega (arith, a, b, e)
@@ -94,7 +94,7 @@ pub own_number_is : (s t : Bool) (n : ℕ) (own : Option ℕ) → own ≡ (if s 
 own_number_is false false n own e = rw e refl
 own_number_is _ _ n own e = rw e tt
 
-pub under_number_is : (s t : Bool) (n : ℕ) (open_owners : Open) (o : Owner) (x subject : Node ℕ) (own under : Option ℕ) (object : Option (Node ℕ)) → n ≡ length open_owners
+pub under_number_is : (s t : Bool) (n : ℕ) (open_owners : OpenOwners) (o : Owner) (x subject : Node ℕ) (own under : Option ℕ) (object : Option (Node ℕ)) → n ≡ length open_owners
     → own ≡ (if s then None else (if t then None else Some n)) → under ≡ (if s then None else owner_for object subject (if t then n else suc n)) → IfSome under (λ k. k ≡ length (open_owners ++ begun_by own o x))
 under_number_is false true n open_owners o x subject own under (Some y) q e u =
     rw (u, e) (by_test (same_node nat_eq y subject) (λ b. rw b tt) (λ b. rw b (q ∙ ap length (sym (append-nil open_owners)))))

@@ -7,11 +7,11 @@ abbrev pub is_blank : Node ℕ → ℕ → Bool
 is_blank (Iri iri) number = false
 is_blank (Blank b) number = b == number
 
-abbrev pub has_blank : Option (Node ℕ) → ℕ → Bool
-has_blank None number = false
-has_blank (Some node) number = is_blank node number
+abbrev pub is_that_blank : Option (Node ℕ) → ℕ → Bool
+is_that_blank None number = false
+is_that_blank (Some node) number = is_blank node number
 
 -- the number after that of a new node, if it is among the resources
 abbrev pub number_after : Resources ℕ → ℕ → ℕ
 number_after here fresh =
-    if is_blank here.subject fresh || has_blank here.typed fresh || has_blank here.object fresh then fresh + 1 else fresh
+    if is_blank here.subject fresh || is_that_blank here.typed fresh || is_that_blank here.object fresh then fresh + 1 else fresh

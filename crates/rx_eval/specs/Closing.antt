@@ -19,13 +19,13 @@ abbrev pub filled_in : List SlotId → CodeTerm → Owners → Owners
 filled_in [] value owners = owners
 filled_in (slot ∷ slots) value owners = filled_in slots value (changed (with_term slot.list slot.place value) owners slot.owner.0)
 
-abbrev pub said_by : Target → Node ℕ → Term ℕ → List (Triple ℕ)
-said_by (Said predicates) subject value = map (λ p. spo subject p value) predicates
-said_by (Listed slots) subject value = []
+abbrev pub target_triples : Target → Node ℕ → Term ℕ → List (Triple ℕ)
+target_triples (Said predicates) subject value = map (λ p. spo subject p value) predicates
+target_triples (Listed slots) subject value = []
 
 -- the value that the text is
-abbrev pub text_value : Gathered → Chars → Term ℕ
-text_value gathered text = text_literal gathered.rule text
+abbrev pub gathered_value : Gathered → Chars → Term ℕ
+gathered_value gathered text = text_literal gathered.rule text
 
 -- the places in lists for the value
 abbrev pub slots_in : Target → List SlotId

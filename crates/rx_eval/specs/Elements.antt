@@ -4,7 +4,7 @@ use Rattle.rx_terms.specs.declared.triples.Node.{Node as CodeNode}
 use Rattle.rx_rdfa.specs.Common.{Node, Facts, Hanging, Inherited, Resources, hangs}
 use Rattle.rx_lists.specs.Owners.{Owners}
 use Rattle.rx_lists.specs.declared.lists.Owner.{Owner}
-use Rattle.rx_eval.specs.Handing.{begun, begun_number}
+use Rattle.rx_eval.specs.Handing.{begun_number, owner_added}
 use Rattle.rx_eval.specs.Frames.{hanging_by}
 
 abbrev pub owner_in : Option Owner → Owner → Owner
@@ -13,7 +13,7 @@ owner_in (Some owner) other = owner
 
 abbrev pub begun_below : Option CodeNode → CodeNode → Owners → Owners
 begun_below None subject owners = owners
-begun_below (Some object) subject owners = begun object subject owners
+begun_below (Some object) subject owners = owner_added object subject owners
 
 abbrev pub begun_below_number : Option CodeNode → CodeNode → ℕ → Option Owner
 begun_below_number None subject number = None

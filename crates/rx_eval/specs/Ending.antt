@@ -23,7 +23,7 @@ abbrev pub ending_seen : List CodeTriple → Owners → ℕ → Ending
 ending_seen out owners cells = ending (triples_seen out) (owners_seen owners) cells
 
 -- one state of these becomes another
-pub record Ends (old : Ending) (step : Ending → Ending) (new : Ending) : Type 0 where
+pub record EndingBecomes (old : Ending) (step : Ending → Ending) (new : Ending) : Type 0 where
   pub path : new ≡ step old
 
 -- how many cells an owner's lists have
@@ -58,7 +58,7 @@ TextAt (Some text) kept front chars = CutAt kept text.mark front chars
 
 -- the element has ended, whatever text stands in what is kept behind its mark
 abbrev pub EndsFrame : Frame → Chars → Ending → Ending → Type 0
-EndsFrame frame kept old new = (front chars : Chars) → TextAt frame.text kept front chars → Ends old (end_frame frame chars) new
+EndsFrame frame kept old new = (front chars : Chars) → TextAt frame.text kept front chars → EndingBecomes old (end_frame frame chars) new
 
 -- the last element was closed; at the root's end the page's own lists are written. Text that no open element gathers is
 -- dropped.

@@ -7,7 +7,7 @@ use Rattle.rx_lists.specs.Owners.{Owners}
 use Rattle.rx_eval.specs.Contexts.{context_seen, waiting_seen}
 use Rattle.rx_eval.specs.Labels.{Numbered}
 use Rattle.rx_eval.specs.Moment.{moment}
-use Rattle.rx_eval.specs.Places.{standing_by, standing, naming}
+use Rattle.rx_eval.specs.Places.{standing_by, standing_at, naming}
 use Rattle.rx_eval.specs.TextRules.{IsTextRule}
 use Rattle.rx_eval.specs.declared.places.Level.{Level}
 use Rattle.rx_eval.specs.declared.places.Surroundings.{Surroundings}
@@ -108,13 +108,13 @@ module _ (labels : Numbered) (fresh : ℕ) (base : Chars) (level : Level) (aroun
       (owners_begun (moment labels fresh 0 0) (standing_by level around facts) resources_by owners)
 
 -- what holds of an element at a place
-abbrev pub at_place : {A : Type 0} → (Numbered → ℕ → Chars → Level → Inherited ℕ ℕ → Facts → A) → Surroundings → Facts → A
-at_place f at facts = f at.labels.now at.fresh at.base.now at.level (context_seen at.around.now) facts
+abbrev pub at_element : {A : Type 0} → (Numbered → ℕ → Chars → Level → Inherited ℕ ℕ → Facts → A) → Surroundings → Facts → A
+at_element f at facts = f at.labels.now at.fresh at.base.now at.level (context_seen at.around.now) facts
 
 -- what is known of an element's text, where it gathers that
 abbrev pub GathersAt : Surroundings → Facts → Owners → ℕ → Option Gathered → Type 0
 GathersAt at facts owners mark gathered =
-    IfSome gathered (λ g. Gathers facts (at_place resources_by at facts) (at_place places_at at facts (owners_seen owners)) mark (text_seen g))
+    IfSome gathered (λ g. Gathers facts (at_element resources_by at facts) (at_element places_at at facts (owners_seen owners)) mark (text_seen g))
 
 -- the same where the places are those that it has with inlist
 abbrev pub GathersListed : Facts → Resources ℕ → List SlotId → ℕ → Option Gathered → Type 0
@@ -123,17 +123,17 @@ GathersListed facts here slots mark gathered = IfSome gathered (λ g. Gathers fa
 -- the same of an element at a place that isn't skipped, with the resources that were found and the owners so far
 module _ (at : Surroundings) (facts : Facts) (here : Resources ℕ) (owners : Owners) where
   abbrev pub naming_found : Naming ℕ ℕ
-  naming_found = naming_by at.labels.now at.fresh (standing at facts) here (length owners)
+  naming_found = naming_by at.labels.now at.fresh (standing_at at facts) here (length owners)
 
   abbrev pub handed_found : Inherited ℕ ℕ
-  handed_found = handed naming_found (standing at facts) here
+  handed_found = handed naming_found (standing_at at facts) here
 
   abbrev pub owners_found : List (Option Owning)
-  owners_found = owners_begun (naming at) (standing at facts) here (owners_seen owners)
+  owners_found = owners_begun (naming at) (standing_at at facts) here (owners_seen owners)
 
   abbrev pub entries_found : Option (Term ℕ) → Entries
   entries_found value =
-      entries_in (own_number (standing at facts) here (length owners)) facts here value (map waiting_seen at.around.now.hanging)
+      entries_in (own_number (standing_at at facts) here (length owners)) facts here value (map waiting_seen at.around.now.hanging)
 
   -- the owners with those that it begins, and with what it puts into their lists
   abbrev pub lists_found : Option CodeTerm → List (Option Owning)
@@ -141,11 +141,11 @@ module _ (at : Surroundings) (facts : Facts) (here : Resources ℕ) (owners : Ow
 
   abbrev pub GathersFound : ℕ → Option Gathered → Type 0
   GathersFound mark gathered =
-      IfSome gathered (λ g. Gathers facts here (places_by naming_found (standing at facts) here owners_found) mark (text_seen g))
+      IfSome gathered (λ g. Gathers facts here (places_by naming_found (standing_at at facts) here owners_found) mark (text_seen g))
 
   abbrev pub own_found : Option ℕ
   own_found = owner_begun here.subject (node_seen at.around.now.object) (length owners)
 
   abbrev pub below_found : Option ℕ
   below_found =
-      owner_for (object_below (naming at) (standing at facts) here) here.subject (next_number (standing at facts) here (length owners))
+      owner_for (object_below (naming at) (standing_at at facts) here) here.subject (next_number (standing_at at facts) here (length owners))

@@ -6,8 +6,8 @@ use Rattle.rx_lists.specs.Owners.{Owners, owned}
 use Rattle.rx_lists.specs.declared.lists.Owner.{Owner}
 
 -- a new owner, where the subject isn't the other node
-abbrev pub begun : Node → Node → Owners → Owners
-begun subject other owners = if same_node nat_eq (node_seen subject) (node_seen other) then owners else owners ++ Some (owned subject []) ∷ []
+abbrev pub owner_added : Node → Node → Owners → Owners
+owner_added subject other owners = if same_node nat_eq (node_seen subject) (node_seen other) then owners else owners ++ Some (owned subject []) ∷ []
 
 abbrev pub owner_numbered : ℕ → Owner
 owner_numbered n = record { 0 = n }

@@ -15,9 +15,9 @@ first_gathering [] = None
 first_gathering (frame ∷ frames) = if is_some frame.gathered then Some 0 else option_map suc (first_gathering frames)
 
 -- that place, when one more frame is there
-abbrev pub first_of : Option ℕ → Bool → ℕ → Option ℕ
-first_of None gathers depth = if gathers then Some depth else None
-first_of (Some place) gathers depth = Some place
+abbrev pub outermost_place : Option ℕ → Bool → ℕ → Option ℕ
+outermost_place None gathers depth = if gathers then Some depth else None
+outermost_place (Some place) gathers depth = Some place
 
 abbrev pub is_place : Option ℕ → ℕ → Bool
 is_place None n = false

@@ -6,15 +6,15 @@ use Rattle.rx_terms.specs.Text.{Chars}
 abbrev pub Numbered : Type 0
 Numbered = List (Chars × ℕ)
 
-abbrev pub number_of : Numbered → Chars → Option ℕ
-number_of [] label = None
-number_of (row ∷ more) label = if bytes_eq row.0 label then Some row.1 else number_of more label
+abbrev pub label_number : Numbered → Chars → Option ℕ
+label_number [] label = None
+label_number (row ∷ more) label = if bytes_eq row.0 label then Some row.1 else label_number more label
 
 -- the labels and the next number, when each of some labels that had none has drawn one
 abbrev pub draw : Numbered → ℕ → List Chars → Numbered × ℕ
 draw numbered next [] = (numbered, next)
 draw numbered next (label ∷ more) =
-    if is_some (number_of numbered label) then draw numbered next more else draw (numbered ++ (label, next) ∷ []) (next + 1) more
+    if is_some (label_number numbered label) then draw numbered next more else draw (numbered ++ (label, next) ∷ []) (next + 1) more
 
 -- some labels have drawn their numbers
 pub record Drawn (old : Numbered) (next : ℕ) (labels : List Chars) (new : Numbered) (after : ℕ) : Type 0 where

@@ -1,6 +1,6 @@
 -- What an element puts into lists, part by part.
 use Rattle.std.specs.Prelude.{◌≡◌, ℕ, Bool, is_none, List, [], ◌++◌, map, filter_map, Option, Some, None, option_map, if◌then◌else◌}
-use Rattle.rx_rdfa.specs.Common.{Chars, Node, Term, term_seen, Facts, Hanging, Forward, Reverse, InList, Resources, listed, hangs, Entry, entry}
+use Rattle.rx_rdfa.specs.Common.{Chars, Node, Term, term_seen, Facts, Hanging, Forward, Reverse, InList, Resources, listed, hangs, ListEntry, entry}
 use Rattle.rx_lists.specs.declared.lists.SlotId.{SlotId}
 use Rattle.rx_lists.specs.Owners.{Owners}
 use Rattle.rx_terms.specs.declared.triples.Term.{Term as CodeTerm}
@@ -10,7 +10,7 @@ use Rattle.rx_eval.specs.declared.contexts.IncompleteTriple.{IncompleteTriple}
 use Rattle.rx_eval.specs.OwnersSeen.{Owning, owners_seen, put_entries, places_for}
 
 abbrev pub Entries : Type 0
-Entries = List (Entry ℕ (Option (Term ℕ)))
+Entries = List (ListEntry ℕ (Option (Term ℕ)))
 
 -- the new owners are the old ones with these entries put into their lists
 abbrev pub Puts : Owners → Owners → Entries → Type 0
@@ -26,7 +26,7 @@ linked_entries owner rel (Some object) = entries_for owner (Some (Some (resource
 abbrev pub touched_entries : ℕ → Option (List Chars) → Bool → Entries
 touched_entries owner rel waits = if waits then entries_for owner None rel else []
 
-abbrev pub awaited_entry : Node ℕ → Hanging ℕ → Option (Entry ℕ (Option (Term ℕ)))
+abbrev pub awaited_entry : Node ℕ → Hanging ℕ → Option (ListEntry ℕ (Option (Term ℕ)))
 awaited_entry subject (Forward p) = None
 awaited_entry subject (Reverse p) = None
 awaited_entry subject (InList owner p) = Some (entry owner (Some (Some (resource_term subject))) p)
@@ -67,5 +67,5 @@ abbrev pub listed_places : Facts → List SlotId → List SlotId
 listed_places facts places = if facts.inlist then places else []
 
 -- the places that an element reserves for its text
-abbrev pub reserved : ℕ → Facts → Resources ℕ → Option CodeTerm → Owners → List SlotId
-reserved owner facts here value owners = listed_places facts (own_reserved owner facts here value owners)
+abbrev pub reserved_places : ℕ → Facts → Resources ℕ → Option CodeTerm → Owners → List SlotId
+reserved_places owner facts here value owners = listed_places facts (own_reserved owner facts here value owners)

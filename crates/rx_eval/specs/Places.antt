@@ -24,20 +24,20 @@ path_at Deeper = []
 abbrev pub standing_by : Level → Inherited ℕ ℕ → Facts → Standing ℕ ℕ
 standing_by level around facts = record { facts = facts; path = path_at level; around = around }
 
-abbrev pub standing : Surroundings → Facts → Standing ℕ ℕ
-standing at facts = standing_by at.level (context_seen at.around.now) facts
+abbrev pub standing_at : Surroundings → Facts → Standing ℕ ℕ
+standing_at at facts = standing_by at.level (context_seen at.around.now) facts
 
 abbrev pub naming : Surroundings → Naming ℕ ℕ
 naming at = moment at.labels.now at.fresh 0 0
 
 -- what the rules say of an element with these facts at a place
 abbrev pub ruled : {A : Type 0} → (Naming ℕ ℕ → Chars → Standing ℕ ℕ → A) → Surroundings → Facts → A
-ruled rule at facts = rule (naming at) at.base.now (standing at facts)
+ruled rule at facts = rule (naming at) at.base.now (standing_at at facts)
 
 -- the object that the children of an element at a place inherit, where it isn't the subject
 abbrev pub object_under : Surroundings → Facts → Resources ℕ → Option (Node ℕ)
-object_under at facts here = object_below (naming at) (standing at facts) here
+object_under at facts here = object_below (naming at) (standing_at at facts) here
 
 -- the node that a reading names
-abbrev pub named : Numbered → Chars → Ref → Node ℕ
-named labels base = resource_named (labelled labels) base
+abbrev pub named_node : Numbered → Chars → Ref → Node ℕ
+named_node labels base = resource_named (labelled labels) base

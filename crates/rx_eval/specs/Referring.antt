@@ -3,7 +3,7 @@
 use Rattle.std.specs.Prelude.{◌≡◌, ◌<◌, ◌≤◌, ◌+◌, true, false, ℕ, [], ◌∷◌, ◌++◌, Bool, Option, Some, None, is_none, ◌&&◌, length, nat_eq, if◌then◌else◌}
 use Rattle.rx_rdfa.specs.Common.{Chars, node_seen, Node, Iri, Blank, same_node, Facts, Ref, IriRef, LabelRef, RelativeRef, Inherited}
 use Rattle.rx_eval.specs.ElementResources.{claims_nothing}
-use Rattle.rx_eval.specs.OwnersSeen.{ended}
+use Rattle.rx_eval.specs.OwnersSeen.{trimmed_owners}
 use Rattle.rx_eval.specs.Entering.{begun_seen, owner_begun}
 use Rattle.rx_eval.specs.Keeping.{gathers_some}
 use Rattle.rx_eval.specs.Opened.{handed_on}
@@ -64,21 +64,21 @@ with_pending (Some pending) state = referred_by (node_seen pending.subject) pend
 pub record LetsWait (state : State) : Type 0 where
   pub rooted : 0 < length state.frames
   pub nothing_hangs : (handed_on state.page state.frames).hanging ≡ []
-  pub tidy : ended state.owners ≡ state.owners
+  pub tidy : trimmed_owners state.owners ≡ state.owners
   pub quiet : gathers_some state.frames ≡ false → state.kept ≡ []
 
 -- this is an IRI
-abbrev pub is_iri : Node ℕ → Bool
-is_iri (Iri iri) = true
-is_iri (Blank n) = false
+abbrev pub is_iri_node : Node ℕ → Bool
+is_iri_node (Iri iri) = true
+is_iri_node (Blank n) = false
 
 -- an element that refers to this may wait inside the last frame, with so many in it
 pub record MayWait (subject : Node ℕ) (inside : ℕ) (state : State) : Type 0 where
   pub lets : LetsWait state
-  pub iri : is_iri subject ≡ true
+  pub iri : is_iri_node subject ≡ true
   pub room : length state.frames + 1 + inside ≤ state.levels
 
 -- an element that waits may do so
-abbrev pub IsKept : Option Pending → State → Type 0
-IsKept None state = Unit {0}
-IsKept (Some pending) state = MayWait (node_seen pending.subject) pending.inside state
+abbrev pub PendingMayWait : Option Pending → State → Type 0
+PendingMayWait None state = Unit {0}
+PendingMayWait (Some pending) state = MayWait (node_seen pending.subject) pending.inside state

@@ -3,10 +3,10 @@ use Rattle.std.specs.Prelude.{◌≡◌, ℕ, false, List, [], ◌∷◌, bytes_
 use Rattle.rx_terms.specs.Common.{list_any, Chars}
 use Rattle.rx_eval.specs.Labels.{Numbered}
 
-abbrev pub rows : List Chars → List ℕ → Numbered
-rows [] numbers = []
-rows (label ∷ labels) [] = []
-rows (label ∷ labels) (number ∷ numbers) = (label, number) ∷ rows labels numbers
+abbrev pub label_rows : List Chars → List ℕ → Numbered
+label_rows [] numbers = []
+label_rows (label ∷ labels) [] = []
+label_rows (label ∷ labels) (number ∷ numbers) = (label, number) ∷ label_rows labels numbers
 
 -- no label is this one
 abbrev pub IsNew : Chars → List Chars → Type 0

@@ -2,7 +2,7 @@
 use Rattle.std.specs.Prelude.{ℕ, List, [], ◌∷◌, ◌++◌, map, filter_map, Option, Some, None, is_some, if◌then◌else◌}
 use Rattle.rx_rdfa.specs.Common.{Chars, Node, Iri, Term, Triple, spo, uses_vocabulary, rdf_type, Naming, Facts, Ref, Resources, resource_named, only, listed, to_node, node_seen}
 use Rattle.rx_eval.specs.TextRules.{resource_term, value_by}
-use Rattle.rx_eval.specs.Places.{naming, named}
+use Rattle.rx_eval.specs.Places.{naming, named_node}
 use Rattle.rx_eval.specs.Triples.{completed_by}
 use Rattle.rx_eval.specs.declared.contexts.IncompleteTriple.{IncompleteTriple}
 use Rattle.rx_eval.specs.declared.places.Surroundings.{Surroundings}
@@ -56,5 +56,5 @@ abbrev pub value_here : Surroundings → Facts → Resources ℕ → Option (Ter
 value_here at facts here = only (is_some facts.property) (value_by (naming at) at.base.now facts here)
 
 -- that a node is of a type
-abbrev pub type_of : Surroundings → Node ℕ → Ref → Triple ℕ
-type_of at typed name = spo typed rdf_type (resource_term (named at.labels.now at.base.now name))
+abbrev pub typing_triple : Surroundings → Node ℕ → Ref → Triple ℕ
+typing_triple at typed name = spo typed rdf_type (resource_term (named_node at.labels.now at.base.now name))

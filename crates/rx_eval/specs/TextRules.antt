@@ -1,6 +1,6 @@
 -- How an element's text is its value.
 use Rattle.std.specs.Prelude.{◌≡◌, ℕ, Option, Some, None, option_map, not, ◌&&◌, is_some, is_none}
-use Rattle.rx_rdfa.specs.Common.{option_or, Chars, Node, Term, Resource, Naming, Facts, ElementKind, Datatype, Empty, Is, Head, Body, Other, Resources, resource_attribute, has_link, only, typed_literal, plain_literal, time_literal, literal_by, rule, rule_or, value, value_now, value_of_text, ByResource, ByTyped, ByText}
+use Rattle.rx_rdfa.specs.Common.{option_or, Chars, Node, Term, Resource, Naming, Facts, ElementKind, Datatype, Empty, Is, Head, Body, Other, Resources, resource_attribute, has_link, only, datatype_literal, plain_literal, time_literal, literal_by, rule, rule_or, value, value_now, value_of_text, ByResource, ByTyped, ByText}
 use Rattle.rx_terms.specs.declared.triples.Node.{Node as CodeNode}
 use Rattle.rx_terms.specs.declared.triples.Node.TheVariants as code_node
 use Rattle.rx_terms.specs.declared.triples.Term.{Term as CodeTerm}
@@ -19,7 +19,7 @@ resource_term node = Resource node
 -- the literal that a text is
 abbrev pub text_literal : TextRule → Chars → Term ℕ
 text_literal (Plain lang) text = plain_literal lang text
-text_literal (Typed datatype) text = typed_literal text datatype
+text_literal (Typed datatype) text = datatype_literal text datatype
 text_literal (Time lang) text = time_literal lang text
 
 -- of an element whose value is its text, the value is the literal that the text is

@@ -30,7 +30,7 @@ wait_by (rules.Reverse predicate) = (predicate, Reverse)
 wait_by (rules.InList owner predicate) = (predicate, InList)
 
 -- what is shown is this context, but for the owners of lists
-pub record Shows (shown : Inherited) (context : rules.Inherited ℕ ℕ) : Type 0 where
+pub record ShowsContext (shown : Inherited) (context : rules.Inherited ℕ ℕ) : Type 0 where
   pub subject : node_seen shown.subject.now ≡ context.subject
   pub object : node_seen shown.object.now ≡ context.object
   pub hanging : waits shown ≡ map wait_by context.hanging

@@ -1,7 +1,7 @@
 //! Blank nodes by their numbers.
 ghost use Rattle.std.specs.Prelude.{◌≡◌, ◌<◌, ◌^◌, ◌+◌, option_map};
 ghost use Rattle.rx_model.specs.Seen.{node_seen};
-ghost use Rattle.rx_eval.specs.Blanks.{is_blank, has_blank, number_after};
+ghost use Rattle.rx_eval.specs.Blanks.{is_blank, is_that_blank, number_after};
 ghost use Rattle.rx_eval.specs.ElementResources.{found_seen};
 
 use crate::resources::ElementResources;
@@ -32,7 +32,7 @@ pub(crate) fn number_after(found: &ElementResources, fresh: u64) -> u64
 }
 
 fn has_blank(node: &Option<Node>, number: u64) -> bool
-    ensures { result ≡ has_blank (option_map node_seen node.now) number }
+    ensures { result ≡ is_that_blank (option_map node_seen node.now) number }
 {
     match node {
         Some(node) => is_blank(node, number),

@@ -4,8 +4,8 @@ ghost use Rattle.rx_model.specs.Common.{chars, node_seen, term_seen, triples_see
 ghost use Rattle.rx_lists.specs.Appends.{Appends};
 ghost use Rattle.rx_eval.specs.OwnersSeen.{owners_seen, open_seen, cells_seen, forgotten_seen};
 ghost use Rattle.rx_eval.specs.States.{frame_seen, owner_seen};
-ghost use Rattle.rx_eval.specs.Ending.{ending_seen, end_owner, cells_count, Ends, EndsFrame};
-ghost use Rattle.rx_eval.specs.Closing.{Fills, filled_in, said_by, slots_in, text_value};
+ghost use Rattle.rx_eval.specs.Ending.{ending_seen, end_owner, cells_count, EndingBecomes, EndsFrame};
+ghost use Rattle.rx_eval.specs.Closing.{Fills, filled_in, gathered_value, slots_in, target_triples};
 
 use crate::frames::{Frame, Gathered, Target};
 use crate::triples::push_each;
@@ -40,7 +40,7 @@ fn put_value(
     gathered: &Gathered,
     value: Term,
 ) -> Result<(), NoMemory>
-    ensures said { OnOk result (Appends out.old out.new (said_by gathered.now.target (node_seen gathered.now.subject) (term_seen value))) }
+    ensures said { OnOk result (Appends out.old out.new (target_triples gathered.now.target (node_seen gathered.now.subject) (term_seen value))) }
     ensures filled { OnOk result (Fills lists.old lists.new (slots_in gathered.now.target) (term_seen value)) }
 {
     match &gathered.target {
@@ -58,8 +58,8 @@ pub(crate) fn end_text(
     text: &str,
 ) -> Result<(), NoMemory>
     ensures said { OnOk result (Appends out.old out.new
-        (said_by gathered.now.target (node_seen gathered.now.subject) (text_value gathered.now (chars text.now)))) }
-    ensures filled { OnOk result (Fills lists.old lists.new (slots_in gathered.now.target) (text_value gathered.now (chars text.now))) }
+        (target_triples gathered.now.target (node_seen gathered.now.subject) (gathered_value gathered.now (chars text.now)))) }
+    ensures filled { OnOk result (Fills lists.old lists.new (slots_in gathered.now.target) (gathered_value gathered.now (chars text.now))) }
 {
     let value = gathered.rule.value(alloc, text)?;
     put_value(out, lists, gathered, value)
@@ -105,7 +105,7 @@ pub(crate) fn end_owner(
     owner: Option<Owner>,
     next: u64,
 ) -> Result<u64, NoMemory>
-    ensures { IfOk result (λ after. Ends (ending_seen out.old lists.old next) (end_owner (option_map owner_seen owner)) (ending_seen out.new lists.new after)) }
+    ensures { IfOk result (λ after. EndingBecomes (ending_seen out.old lists.old next) (end_owner (option_map owner_seen owner)) (ending_seen out.new lists.new after)) }
 {
     match owner {
         Some(owner) => end_lists(out, lists, owner, next),

@@ -12,7 +12,7 @@ ghost use Rattle.rx_eval.specs.Gathering.{target_seen};
 ghost use Rattle.rx_eval.specs.Closing.{slots_in};
 ghost use Rattle.rx_eval.specs.States.{owner_seen};
 ghost use Rattle.rx_eval.specs.Elements.{handed_by, hanging_below, owner_in, begun_below, begun_below_number};
-ghost use Rattle.rx_eval.specs.Entering.{GathersAt, GathersListed, GathersFound, handed_found, lists_found, own_found, below_found, at_place, start_at, below_at, lists_at, gathers_at, own_at, below_own_at};
+ghost use Rattle.rx_eval.specs.Entering.{GathersAt, GathersListed, GathersFound, handed_found, lists_found, own_found, below_found, at_element, start_at, below_at, lists_at, gathers_at, own_at, below_own_at};
 
 use crate::contexts::{EvaluationContext, Hangings};
 use crate::frames::{Frame, Gathered, Target, clone_iris, waiting_of};
@@ -120,13 +120,13 @@ pub(crate) fn enter(
     out: &mut TripleList,
     mark: usize,
 ) -> Result<Frame, NoMemory>
-    ensures start { OnOk result (Appends out.old out.new (at_place start_at place.now (facts_seen facts.now))) }
-    ensures context { IfOk result (λ frame. context_seen frame.context ≡ at_place below_at place.now (facts_seen facts.now) (length lists.old)) }
-    ensures lists { OnOk result (owners_seen lists.new ≡ at_place lists_at place.now (facts_seen facts.now) (owners_seen lists.old)) }
-    ensures gathers { IfOk result (λ frame. is_some frame.gathered ≡ at_place gathers_at place.now (facts_seen facts.now)) }
+    ensures start { OnOk result (Appends out.old out.new (at_element start_at place.now (facts_seen facts.now))) }
+    ensures context { IfOk result (λ frame. context_seen frame.context ≡ at_element below_at place.now (facts_seen facts.now) (length lists.old)) }
+    ensures lists { OnOk result (owners_seen lists.new ≡ at_element lists_at place.now (facts_seen facts.now) (owners_seen lists.old)) }
+    ensures gathers { IfOk result (λ frame. is_some frame.gathered ≡ at_element gathers_at place.now (facts_seen facts.now)) }
     ensures text { IfOk result (λ frame. GathersAt place.now (facts_seen facts.now) lists.old mark frame.gathered) }
-    ensures own { IfOk result (λ frame. option_map owner_seen frame.own ≡ at_place own_at place.now (facts_seen facts.now) (length lists.old)) }
-    ensures below { IfOk result (λ frame. option_map owner_seen frame.below ≡ at_place below_own_at place.now (facts_seen facts.now) (length lists.old)) }
+    ensures own { IfOk result (λ frame. option_map owner_seen frame.own ≡ at_element own_at place.now (facts_seen facts.now) (length lists.old)) }
+    ensures below { IfOk result (λ frame. option_map owner_seen frame.below ≡ at_element below_own_at place.now (facts_seen facts.now) (length lists.old)) }
 {
     let started = place.start(facts, iris, out)?;
     if started.found.skipped {

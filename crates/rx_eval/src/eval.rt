@@ -5,10 +5,10 @@ ghost use Rattle.rx_rdfa.specs.Renaming.{labels as labels_of};
 ghost use Rattle.rx_curie.specs.Seen.{facts_seen};
 ghost use Rattle.rx_eval.specs.Keeping.{gathers_some};
 ghost use Rattle.rx_eval.specs.Opened.{handed_on, Opens, MayOpen, begun_state, read_text};
-ghost use Rattle.rx_eval.specs.Waits.{Shows, waits};
+ghost use Rattle.rx_eval.specs.Waits.{ShowsContext, waits};
 ghost use Rattle.rx_eval.specs.Numbering.{Numbering};
-ghost use Rattle.rx_eval.specs.Standing.{EvaluatorStands, Takes, TakesOn, no_numbers};
-ghost use Rattle.rx_eval.specs.Shown.{ShowsAfter, IsMade};
+ghost use Rattle.rx_eval.specs.Standing.{EvaluatorStands, TakesCall, TakesCallOn, no_numbers};
+ghost use Rattle.rx_eval.specs.Shown.{ShowsAfter, MakesTriples};
 ghost use Rattle.rx_eval.specs.Ending.{Closes};
 
 use crate::inherited::Inherited;
@@ -34,13 +34,13 @@ pub struct Eval {
 
 impl Model for Eval {
     ghost use Rattle.rx_eval.specs.States.{State};
-    ghost use Rattle.rx_eval.specs.Referring.{with_pending, IsKept};
+    ghost use Rattle.rx_eval.specs.Referring.{with_pending, PendingMayWait};
 
     ghost Value = { State };
 
     ghost view = { λ e. with_pending e.pending e.stack };
 
-    ghost invariant = { λ e. IsKept e.pending e.stack };
+    ghost invariant = { λ e. PendingMayWait e.pending e.stack };
 }
 
 impl Eval {
@@ -60,7 +60,7 @@ impl Eval {
     /// The context in which a child of the innermost open element would stand: the rules' own, with the numbers of the
     /// triples' blank nodes.
     pub fn inherited(&self) -> Inherited<'_>
-        ensures frames { Shows result (handed_on self.now.page self.now.frames) }
+        ensures frames { ShowsContext result (handed_on self.now.page self.now.frames) }
         ensures stands { (to : Numbering) (list : List Call) → EvaluatorStands to list self.now → ShowsAfter to self.now.base list result }
     {
         match &self.pending {
@@ -92,7 +92,7 @@ impl Eval {
     pub fn enter(&mut self, facts: &Facts) -> Result<(), NoMemory>
         requires { self.old.out_of_memory ≡ false → MayOpen self.old (facts_seen facts.now) }
         ensures ok { OnOk result (Opens self.old (facts_seen facts.now) self.new) }
-        ensures stands { OnOk result (TakesOn (Enter (facts_seen facts.now)) self.old self.new) }
+        ensures stands { OnOk result (TakesCallOn (Enter (facts_seen facts.now)) self.old self.new) }
         ensures unspent { OnOk result (self.old.out_of_memory ≡ false) }
         ensures out_of_memory { OnErr result (self.new.out_of_memory ≡ true) }
     {
@@ -109,7 +109,7 @@ impl Eval {
     /// Text inside the innermost element. It is kept only while some open element gathers it; else it takes no memory.
     pub fn text(&mut self, text: &str) -> Result<(), NoMemory>
         ensures ok { OnOk result (self.new ≡ read_text (chars text.now) self.old) }
-        ensures stands { OnOk result (Takes (Read (chars text.now)) self.old self.new) }
+        ensures stands { OnOk result (TakesCall (Read (chars text.now)) self.old self.new) }
         ensures unspent { OnOk result (self.old.out_of_memory ≡ false) }
         ensures out_of_memory { OnErr result (self.new.out_of_memory ≡ true) }
         ensures quiet { self.old.out_of_memory ≡ false → gathers_some self.old.frames ≡ false → IsOk result }
@@ -127,7 +127,7 @@ impl Eval {
     pub fn leave(&mut self) -> Result<(), NoMemory>
         requires { self.old.out_of_memory ≡ false → 0 < length self.old.frames }
         ensures ok { OnOk result (Closes self.old self.new) }
-        ensures stands { OnOk result (TakesOn Leave self.old self.new) }
+        ensures stands { OnOk result (TakesCallOn Leave self.old self.new) }
         ensures unspent { OnOk result (self.old.out_of_memory ≡ false) }
         ensures out_of_memory { OnErr result (self.new.out_of_memory ≡ true) }
     {
@@ -145,7 +145,7 @@ impl Eval {
     /// nodes replaced by their numbers. Takes no memory; want of memory comes exactly from a spent value.
     pub fn finish(self) -> Result<TripleList, NoMemory>
         ensures ok { IfOk result (λ triples. triples_seen triples ≡ self.out) }
-        ensures made { IfOk result (λ triples. IsMade self (triples_seen triples)) }
+        ensures made { IfOk result (λ triples. MakesTriples self (triples_seen triples)) }
         ensures out_of_memory { IsErr result ↔ (self.out_of_memory ≡ true) }
     {
         let Eval { stack, pending } = self;

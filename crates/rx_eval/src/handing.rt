@@ -2,7 +2,7 @@
 ghost use Rattle.std.specs.Prelude.{◌≡◌, [], ◌∷◌, ◌++◌, Some, OnOk, IfOk, nat_eq, length};
 ghost use Rattle.rx_model.specs.Common.{same_node, node_seen};
 ghost use Rattle.rx_lists.specs.Owners.{owned};
-ghost use Rattle.rx_eval.specs.Handing.{begun, begun_number};
+ghost use Rattle.rx_eval.specs.Handing.{begun_number, owner_added};
 
 use rx_lists::{Lists, Owner};
 use rx_terms::{NoMemory, Node};
@@ -22,7 +22,7 @@ pub(crate) fn begin(
     subject: &Node,
     other: &Node,
 ) -> Result<Option<Owner>, NoMemory>
-    ensures lists { OnOk result (lists.new ≡ begun subject.now other.now lists.old) }
+    ensures lists { OnOk result (lists.new ≡ owner_added subject.now other.now lists.old) }
     ensures owner { IfOk result (λ owner. owner ≡ begun_number subject.now other.now (length lists.old)) }
 {
     if is_same(subject, other) {

@@ -1,14 +1,13 @@
 //! The IRIs that RDFa's triples have of their own.
 ghost use Rattle.std.specs.Prelude.{◌≡◌, ◌++◌, IfOk, true};
 ghost use Rattle.rx_rdfa.specs.Common.{list_all, is_ascii, IsIri, uses_vocabulary, xsd, rdf_type};
-ghost use Rattle.rx_values.specs.Kinds.{kind_name};
+ghost use Rattle.rx_values.specs.Kinds.{datatype_name};
 
+use rx_model::RDF_TYPE;
 use rx_terms::{Iri, NoMemory};
 use rx_values::TimeKind;
 use std::alloc::Global;
 use std::marker::Model;
-
-const TYPE: &str = "http://www.w3.org/1999/02/22-rdf-syntax-ns#type";
 
 const USES_VOCABULARY: &str = "http://www.w3.org/ns/rdfa#usesVocabulary";
 
@@ -21,20 +20,20 @@ pub struct OwnIris {
 }
 
 impl Model for OwnIris {
-    ghost use Rattle.rx_eval.specs.Iris.{AreOwn};
+    ghost use Rattle.rx_eval.specs.Iris.{AreRdfaIris};
 
     ghost Value = { Unit {0} };
 
     ghost view = { λ iris. tt };
 
-    ghost invariant = { λ iris. AreOwn iris.rdf_type iris.uses_vocabulary };
+    ghost invariant = { λ iris. AreRdfaIris iris.rdf_type iris.uses_vocabulary };
 }
 
 impl OwnIris {
     /// Makes the IRIs.
     pub fn new(alloc: Global) -> Result<OwnIris, NoMemory> {
         Ok(OwnIris {
-            rdf_type: iri(alloc, TYPE)?,
+            rdf_type: iri(alloc, RDF_TYPE)?,
             uses_vocabulary: iri(alloc, USES_VOCABULARY)?,
         })
     }
@@ -56,7 +55,7 @@ impl OwnIris {
 
 /// The datatype of a form of times.
 pub(crate) fn time_datatype(alloc: Global, kind: TimeKind) -> Result<Iri, NoMemory>
-    ensures { IfOk result (λ iri. iri ≡ xsd ++ kind_name kind) }
+    ensures { IfOk result (λ iri. iri ≡ xsd ++ datatype_name kind) }
 {
     match kind {
         TimeKind::Date => iri(alloc, "http://www.w3.org/2001/XMLSchema#date"),

@@ -1,7 +1,7 @@
 //! The numbers of authors' blank nodes.
 ghost use Rattle.std.specs.Prelude.{◌≡◌, ◌<◌, ◌^◌, ◌+◌, [], ◌∷◌, ◌++◌, length, map, OnOk, OnErr, IfOk, None, unwrap_or, string_bytes};
 ghost use Rattle.std.specs.Str.{chars};
-ghost use Rattle.rx_eval.specs.Labels.{number_of, Drawn};
+ghost use Rattle.rx_eval.specs.Labels.{label_number, Drawn};
 ghost use Rattle.rx_eval.specs.Rows.{IsNew};
 
 use rx_terms::{NoMemory, Text};
@@ -23,9 +23,9 @@ impl Model for Labels {
 
     ghost Value = { List (List ℕ × ℕ) };
 
-    ghost use Rattle.rx_eval.specs.Rows.{rows};
+    ghost use Rattle.rx_eval.specs.Rows.{label_rows};
 
-    ghost view = { λ l. rows (map (λ k. chars (string_bytes k)) l.labels) l.numbers.items };
+    ghost view = { λ l. label_rows (map (λ k. chars (string_bytes k)) l.labels) l.numbers.items };
 
     ghost invariant = { λ l. length l.labels ≡ length l.numbers.items };
 }
@@ -44,7 +44,7 @@ impl Labels {
 
     /// The number of a label, and None exactly where it has none.
     pub fn number(&self, label: &str) -> Option<u64>
-        ensures { result ≡ number_of self.now (chars label.now) }
+        ensures { result ≡ label_number self.now (chars label.now) }
     {
         match self.labels.get_index_of(label) {
             Some(place) => Some(self.numbers[place]),
@@ -54,7 +54,7 @@ impl Labels {
 
     /// The number of a label, and 0 where it has none.
     pub(crate) fn number_or_zero(&self, label: &Text) -> u64
-        ensures { result ≡ unwrap_or (number_of self.now label.now) 0 }
+        ensures { result ≡ unwrap_or (label_number self.now label.now) 0 }
     {
         match self.number(label.as_str()) {
             Some(number) => number,
@@ -64,7 +64,7 @@ impl Labels {
 
     /// Gives the label the number.
     fn add(&mut self, label: &Text, number: u64) -> Result<(), NoMemory>
-        requires { number_of self.old label.now ≡ None }
+        requires { label_number self.old label.now ≡ None }
         ensures ok { OnOk result (self.new ≡ self.old ++ (label.now, number) ∷ []) }
         ensures err { OnErr result (self.new ≡ self.old) }
     {

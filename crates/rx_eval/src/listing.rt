@@ -5,7 +5,7 @@ ghost use Rattle.rx_curie.specs.Seen.{facts_seen};
 ghost use Rattle.rx_eval.specs.ElementResources.{found_seen};
 ghost use Rattle.rx_eval.specs.Contexts.{waiting_seen};
 ghost use Rattle.rx_eval.specs.OwnersSeen.{owners_seen, places_for};
-ghost use Rattle.rx_eval.specs.Listing.{Puts, entries_for, linked_entries, touched_entries, awaited_entry, own_entries, listed_entries, entries_put, places_unless, own_reserved, reserved};
+ghost use Rattle.rx_eval.specs.Listing.{Puts, entries_for, linked_entries, touched_entries, awaited_entry, own_entries, listed_entries, entries_put, places_unless, own_reserved, reserved_places};
 
 use crate::contexts::IncompleteTriple;
 use crate::entries::{add_awaited, add_each, slot_each, touch_each};
@@ -119,7 +119,7 @@ pub(crate) fn put_all(
     waiting: &[IncompleteTriple],
 ) -> Result<Vec<SlotId>, NoMemory>
     ensures lists { OnOk result (Puts lists.old lists.new (entries_put owner.0 (facts_seen facts.now) (found_seen found.now) value.now waiting.now)) }
-    ensures slots { IfOk result (λ slots. slots.items ≡ reserved owner.0 (facts_seen facts.now) (found_seen found.now) value.now lists.old) }
+    ensures slots { IfOk result (λ slots. slots.items ≡ reserved_places owner.0 (facts_seen facts.now) (found_seen found.now) value.now lists.old) }
 {
     let slots = put_listed(alloc, lists, owner, facts, found, value)?;
     put_awaited(lists, waiting, &found.subject)?;
@@ -137,7 +137,7 @@ fn put_listed(
 ) -> Result<Vec<SlotId>, NoMemory>
     ensures lists { OnOk result (Puts lists.old lists.new
         (listed_entries owner.0 (facts_seen facts.now) (found_seen found.now) (option_map term_seen value.now))) }
-    ensures slots { IfOk result (λ slots. slots.items ≡ reserved owner.0 (facts_seen facts.now) (found_seen found.now) value.now lists.old) }
+    ensures slots { IfOk result (λ slots. slots.items ≡ reserved_places owner.0 (facts_seen facts.now) (found_seen found.now) value.now lists.old) }
 {
     if !facts.inlist {
         return Ok(Vec::new(alloc));

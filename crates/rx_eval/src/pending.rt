@@ -4,7 +4,7 @@ ghost use Rattle.rx_rdfa.specs.Renaming.{labels as labels_of};
 ghost use Rattle.rx_curie.specs.Seen.{facts_seen};
 ghost use Rattle.rx_eval.specs.Opened.{Opens, skipped_state};
 ghost use Rattle.rx_eval.specs.Ending.{Closes};
-ghost use Rattle.rx_eval.specs.Referring.{IsKept, with_pending};
+ghost use Rattle.rx_eval.specs.Referring.{PendingMayWait, with_pending};
 
 use crate::resources::{only_reference, says_nothing};
 use crate::stack::Stack;
@@ -26,11 +26,11 @@ pub(crate) fn open(
     pending: &mut Option<Pending>,
     facts: &Facts,
 ) -> Result<(), NoMemory>
-    requires kept { IsKept pending.old stack.old }
+    requires kept { PendingMayWait pending.old stack.old }
     requires drawn { stack.old.drawn + 1 + length (labels_of (facts_seen facts.now)) ≤ 2 ^ 61 }
     requires level { length (with_pending pending.old stack.old).frames < stack.old.levels }
     ensures ok { OnOk result (Opens (with_pending pending.old stack.old) (facts_seen facts.now) (with_pending pending.new stack.new)) }
-    ensures kept { IsKept pending.new stack.new }
+    ensures kept { PendingMayWait pending.new stack.new }
 {
     if stack.depth() > 0 && says_nothing(facts) {
         open_silent(stack, pending);
@@ -42,12 +42,12 @@ pub(crate) fn open(
 /// Opens an element of which nothing is said, which isn't the root.
 #[inline(always)]
 fn open_silent(stack: &mut Stack, pending: &mut Option<Pending>)
-    requires kept { IsKept pending.old stack.old }
+    requires kept { PendingMayWait pending.old stack.old }
     requires drawn { stack.old.drawn + 1 ≤ 2 ^ 61 }
     requires level { length (with_pending pending.old stack.old).frames < stack.old.levels }
     requires inside { 0 < length stack.old.frames }
     ensures state { with_pending pending.new stack.new ≡ skipped_state (with_pending pending.old stack.old) }
-    ensures kept { IsKept pending.new stack.new }
+    ensures kept { PendingMayWait pending.new stack.new }
 {
     // Elements that are open have levels, whose number has 32 bits.
     let _levels = stack.levels();
@@ -64,11 +64,11 @@ fn open_saying(
     pending: &mut Option<Pending>,
     facts: &Facts,
 ) -> Result<(), NoMemory>
-    requires kept { IsKept pending.old stack.old }
+    requires kept { PendingMayWait pending.old stack.old }
     requires drawn { stack.old.drawn + 1 + length (labels_of (facts_seen facts.now)) ≤ 2 ^ 61 }
     requires level { length (with_pending pending.old stack.old).frames < stack.old.levels }
     ensures ok { OnOk result (Opens (with_pending pending.old stack.old) (facts_seen facts.now) (with_pending pending.new stack.new)) }
-    ensures kept { IsKept pending.new stack.new }
+    ensures kept { PendingMayWait pending.new stack.new }
 {
     let waiting = mem::replace(pending, None);
     settle(stack, waiting)?;
@@ -79,7 +79,7 @@ fn open_saying(
 
 /// The element that waits gets its frame.
 fn settle(stack: &mut Stack, pending: Option<Pending>) -> Result<(), NoMemory>
-    requires { IsKept pending stack.old }
+    requires { PendingMayWait pending stack.old }
     ensures { OnOk result (stack.new ≡ with_pending pending stack.old) }
 {
     match pending {
@@ -96,7 +96,7 @@ fn open_settled(stack: &mut Stack, facts: &Facts) -> Result<Option<Pending>, NoM
     requires drawn { stack.old.drawn + 1 + length (labels_of (facts_seen facts.now)) ≤ 2 ^ 61 }
     requires level { length stack.old.frames < stack.old.levels }
     ensures ok { IfOk result (λ pending. Opens stack.old (facts_seen facts.now) (with_pending pending stack.new)) }
-    ensures kept { IfOk result (λ pending. IsKept pending stack.new) }
+    ensures kept { IfOk result (λ pending. PendingMayWait pending stack.new) }
 {
     if let Some(reference) = only_reference(facts) {
         if stack.lets_wait() {
@@ -113,10 +113,10 @@ fn open_settled(stack: &mut Stack, facts: &Facts) -> Result<Option<Pending>, NoM
 /// Closes the innermost element.
 #[inline(always)]
 pub(crate) fn close(stack: &mut Stack, pending: &mut Option<Pending>) -> Result<(), NoMemory>
-    requires kept { IsKept pending.old stack.old }
+    requires kept { PendingMayWait pending.old stack.old }
     requires inside { 0 < length (with_pending pending.old stack.old).frames }
     ensures ok { OnOk result (Closes (with_pending pending.old stack.old) (with_pending pending.new stack.new)) }
-    ensures kept { IsKept pending.new stack.new }
+    ensures kept { PendingMayWait pending.new stack.new }
 {
     let Some(last) = pending else {
         return stack.close();

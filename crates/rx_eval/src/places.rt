@@ -2,7 +2,7 @@
 ghost use Rattle.std.specs.Prelude.{◌≡◌, IfOk};
 ghost use Rattle.rx_model.specs.Seen.{node_seen};
 ghost use Rattle.rx_curie.specs.Seen.{ref_seen};
-ghost use Rattle.rx_eval.specs.Places.{level_at, named};
+ghost use Rattle.rx_eval.specs.Places.{level_at, named_node};
 
 use crate::contexts::EvaluationContext;
 use crate::labels::Labels;
@@ -54,7 +54,7 @@ pub(crate) fn named(
     labels: &Labels,
     name: &Ref,
 ) -> Result<Node, NoMemory>
-    ensures { IfOk result (λ node. node_seen node ≡ named labels.now base.now (ref_seen name.now)) }
+    ensures { IfOk result (λ node. node_seen node ≡ named_node labels.now base.now (ref_seen name.now)) }
 {
     match name {
         Ref::Iri(iri) => Ok(Node::Iri(iri.try_clone()?)),

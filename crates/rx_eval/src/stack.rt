@@ -5,12 +5,12 @@ ghost use Rattle.rx_model.specs.Terms.{Iri as named_by};
 ghost use Rattle.rx_rdfa.specs.Renaming.{labels as labels_of};
 ghost use Rattle.rx_curie.specs.Seen.{facts_seen};
 ghost use Rattle.rx_eval.specs.Contexts.{context_seen};
-ghost use Rattle.rx_eval.specs.Keeping.{gathers_some, first_of, is_place};
+ghost use Rattle.rx_eval.specs.Keeping.{gathers_some, outermost_place, is_place};
 ghost use Rattle.rx_eval.specs.Opened.{handed_on, Opens, begun_state, read_text, skipped_state};
 ghost use Rattle.rx_eval.specs.OwnersSeen.{owners_seen, owning};
 ghost use Rattle.rx_eval.specs.Entering.{begun_seen};
 ghost use Rattle.rx_eval.specs.Referring.{LetsWait, referred_by, referring_frame};
-ghost use Rattle.rx_eval.specs.Waits.{Shows};
+ghost use Rattle.rx_eval.specs.Waits.{ShowsContext};
 ghost use Rattle.rx_eval.specs.Ending.{Closes};
 ghost use Rattle.rx_eval.specs.States.{owner_seen, frame_seen};
 
@@ -208,7 +208,7 @@ impl Stack {
 
     /// The context in which a child of the innermost open element would stand.
     pub(crate) fn inherited(&self) -> Inherited<'_>
-        ensures { Shows result (handed_on self.now.page self.now.frames) }
+        ensures { ShowsContext result (handed_on self.now.page self.now.frames) }
     {
         let context = around(&self.page, self.frames.as_slice());
         Inherited {
@@ -461,7 +461,7 @@ fn frame_referring(
 
 /// The place of the outermost frame that gathers, when one more is there.
 fn first_of(outermost: Option<usize>, gathers: bool, depth: usize) -> Option<usize>
-    ensures { result ≡ first_of outermost gathers depth }
+    ensures { result ≡ outermost_place outermost gathers depth }
 {
     match outermost {
         Some(place) => Some(place),

@@ -6,7 +6,7 @@ ghost use Rattle.rx_eval.specs.ElementResources.{found_seen};
 ghost use Rattle.rx_eval.specs.TextRules.{resource_term};
 ghost use Rattle.rx_lists.specs.Appends.{Appends};
 ghost use Rattle.rx_eval.specs.Places.{naming, ruled};
-ghost use Rattle.rx_eval.specs.Starts.{vocabulary_by, types_of, properties_of, links_of, values_of, found_by, start_here, value_here, type_of};
+ghost use Rattle.rx_eval.specs.Starts.{vocabulary_by, types_of, properties_of, links_of, values_of, found_by, start_here, value_here, typing_triple};
 
 use crate::iris::OwnIris;
 use crate::places::{Surroundings, named};
@@ -217,7 +217,7 @@ impl<'a> Surroundings<'a> {
         typed: &Node,
         name: &Ref,
     ) -> Result<(), NoMemory>
-        ensures { OnOk result (Appends out.old out.new (type_of self.now (node_seen typed.now) (ref_seen name.now) ∷ [])) }
+        ensures { OnOk result (Appends out.old out.new (typing_triple self.now (node_seen typed.now) (ref_seen name.now) ∷ [])) }
     {
         let node = named(self.alloc, self.base, self.labels, name)?;
         out.push(Triple {

@@ -1,7 +1,7 @@
 //! The value of `property` (RDFa Core 1.1, section 7.5, step 11; HTML+RDFa 1.1, section 3.1).
 ghost use Rattle.std.specs.Prelude.{◌≡◌, IfOk, option_map, option_copied, is_some};
-ghost use Rattle.rx_rdfa.specs.Common.{chars, node_seen, term_seen, resource_attribute, resource_named, typed_literal, plain_literal, time_literal, is_time};
-ghost use Rattle.rx_curie.specs.Seen.{datatype_seen, facts_seen, ref_seen, kind_seen};
+ghost use Rattle.rx_rdfa.specs.Common.{chars, node_seen, term_seen, resource_attribute, resource_named, datatype_literal, plain_literal, time_literal, is_time};
+ghost use Rattle.rx_curie.specs.Seen.{datatype_seen, facts_seen, ref_seen, element_seen};
 ghost use Rattle.rx_eval.specs.ElementResources.{found_seen};
 ghost use Rattle.rx_eval.specs.Moment.{labelled};
 ghost use Rattle.rx_eval.specs.TextRules.{IsTextRule, text_rule, text_literal, resource_term, resource_value, term_of, value_by, given_literal};
@@ -60,7 +60,7 @@ fn plain_literal(lang: &Option<Lang>, lexical: Text) -> Result<Term, NoMemory>
 }
 
 fn typed_literal(lexical: Text, datatype: &Iri) -> Result<Term, NoMemory>
-    ensures { IfOk result (λ term. term_seen term ≡ typed_literal lexical datatype.now) }
+    ensures { IfOk result (λ term. term_seen term ≡ datatype_literal lexical datatype.now) }
 {
     Ok(Term::Literal(Literal::typed(lexical, datatype.try_clone()?)))
 }

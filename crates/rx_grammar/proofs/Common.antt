@@ -1,20 +1,20 @@
 -- The names of a page that most proofs above cite, passed on from one place. Declares nothing.
 pub use Rattle.rx_chars.proofs.Utf8Exact.{answer_is}
 pub use Rattle.rx_chars.proofs.Utf8Forms.{tables_agree}
-pub use Rattle.rx_chars.specs.Characters.{Entry, IsRead, as_line_end, byte_order_mark, carriage_return, entered, line_end_entry, line_feed, placed, without_mark}
+pub use Rattle.rx_chars.specs.Characters.{IsRead, PlacedCharacter, as_line_end, byte_order_mark, line_end_entry, placed, preprocessed, without_mark}
 pub use Rattle.rx_chars.specs.Utf8.{BeginsCharacter, IsCharacter, Leaves, answer_of, is_in, is_well_formed, scalar_value, tail}
 pub use Rattle.rx_chars.specs.declared.syntax.Syntax.{Syntax}
 pub use Rattle.rx_chars.specs.declared.syntax.Syntax.TheVariants.{Html, Xhtml}
 pub use Rattle.rx_chars.specs.declared.utf8.Utf8Step.{Utf8Step}
 pub use Rattle.rx_chars.specs.declared.utf8.Utf8Step.TheVariants.{Bad, Char, More}
 pub use Rattle.rx_grammar.specs.Begun.{Begun, Line, Open, Phase, Stands, a_child, a_root, after, before, ended, enders_of, inside_of, not_begun, parent_of, still_open, within}
-pub use Rattle.rx_grammar.specs.Contents.{Place, drops_line_feed, hides, html_in_svg, in_html, inside_html, is_alone, is_foreign, is_foreign_root, is_html, is_plaintext, is_self_closed, is_void, outside, place_in}
-pub use Rattle.rx_grammar.specs.Items.{AllFit, Fits, Item, Spelled, is_line_feed, is_literal, is_strict_literal, last_from, next_of, no_more, no_section_end, one, start_of, text_of, values}
+pub use Rattle.rx_grammar.specs.Contents.{Place, drops_line_feed, hides, html_in_svg, in_html, inside_html, is_alone, is_foreign, is_foreign_root, is_html, is_plaintext, is_self_closed, is_void, outside, place_inside}
+pub use Rattle.rx_grammar.specs.Items.{AllFit, Fits, Item, Spelled, is_line_feed, is_literal, is_strict_literal, last_from, next_of, no_more, no_section_end, one, start_tag_of, text_of, values}
 pub use Rattle.rx_grammar.specs.Kinds.{is_of_meaning}
 pub use Rattle.rx_grammar.specs.Laws.{OneTree}
 pub use Rattle.rx_grammar.specs.Names.{holding_names, is_among, name_of_raw, omissible_rows, row_among, row_of, same, void_names}
-pub use Rattle.rx_grammar.specs.Omission.{enders, ends_by, has_row, is_ended_by, is_held, is_omissible, names_of}
-pub use Rattle.rx_grammar.specs.PageFaults.{Before, FaultAt, Faulty, IsPending, IsShort, Reached, Rows, Unfinished, after_end, after_start, end_rows, first_row, has_ended, is_before, is_innermost, is_known_tag, is_opening_begun, meets_opening, start_rows, tag_rows, token_of, under_start}
+pub use Rattle.rx_grammar.specs.Omission.{enders, ends_by_token, has_row, is_ended_by, is_held, is_omissible, names_listed}
+pub use Rattle.rx_grammar.specs.PageFaults.{Before, FaultAt, Faulty, IsPending, IsShort, Reached, Rows, Unfinished, after_end, after_start, end_rows, first_row, has_ended, is_before_root, is_innermost, is_known_tag, is_opening_begun, meets_opening, start_rows, tag_rows, token_of, under_start}
 pub use Rattle.rx_grammar.specs.Pages.{Document, Page, has_no_nul, root_name, shown}
 pub use Rattle.rx_grammar.specs.References.{Denotes, begins_number, digit_value, is_begun, is_body, is_hexadecimal_digit, is_name, is_plain, is_x, meaning, number_from, one_or_more, stops_at}
 pub use Rattle.rx_grammar.specs.Shapes.{Shape, a_start, an_end, begins, begins_attribute, begins_tag, continues_attribute, ends_in_solidus, ends_name, first_then, is_attribute_char, is_gap, is_last_gap, is_quote, is_strict_char, is_strict_end, is_strict_start, is_tag_char, is_unquoted, is_unquoted_char}
@@ -32,3 +32,4 @@ pub use Rattle.std.proofs.lemmas.Grind.{get_or-set_at}
 pub use Rattle.std.proofs.lemmas.List.{append_cancel_right, get_or-set_same, get_or_append_left, length-append}
 pub use Rattle.std.proofs.lemmas.List.Elements.{All-contains, All-filter, All-weaker}
 pub use Rattle.std.specs.Prelude.{codes, find}
+pub use Rattle.rx_terms.specs.Ascii.{carriage_return, line_feed}

@@ -55,9 +55,9 @@ abbrev pub inside_at : Content → Bool → Chars → Place
 inside_at content.Foreign in_svg name = inside_foreign in_svg name
 inside_at other in_svg name = inside_html name
 
-abbrev pub place_in : Syntax → Place → Chars → Place
-place_in Html place name = inside_at place.content place.in_svg name
-place_in Xhtml place name = record { content = content.Strict; in_svg = false }
+abbrev pub place_inside : Syntax → Place → Chars → Place
+place_inside Html place name = inside_at place.content place.in_svg name
+place_inside Xhtml place name = record { content = content.Strict; in_svg = false }
 
 abbrev pub is_foreign_root : Chars → Bool
 is_foreign_root name = same name (codes "svg") || same name (codes "math")

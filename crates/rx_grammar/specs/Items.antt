@@ -1,7 +1,7 @@
 -- The tokens of a page in order, each with its place and the content that it is spelled in.
 use Rattle.std.specs.Prelude.{◌≡◌, ℕ, ◌+◌, ◌≤◌, Bool, true, false, ◌&&◌, ◌==◌, List, [], ◌∷◌, ◌++◌, map, Option, Some, None, if◌then◌else◌}
 use Rattle.rx_terms.specs.Common.{right_bracket, greater_than_sign, line_feed, Chars}
-use Rattle.rx_chars.specs.Characters.{Entry}
+use Rattle.rx_chars.specs.Characters.{PlacedCharacter}
 use Rattle.rx_chars.specs.declared.syntax.Syntax.{Syntax}
 use Rattle.rx_grammar.specs.declared.contents.Content.{Content}
 use Rattle.rx_grammar.specs.declared.contents.Content.TheVariants as content
@@ -9,7 +9,7 @@ use Rattle.rx_grammar.specs.Tokens.{Tag, Token, tag, character, reference, kept,
 use Rattle.rx_grammar.specs.Spelling.{Spells}
 use Rattle.rx_grammar.specs.Trees.{StartTag}
 
-abbrev pub values : List Entry → Chars
+abbrev pub values : List PlacedCharacter → Chars
 values entries = map (λ entry. entry.value) entries
 
 -- the first character, where `next` stands after all
@@ -25,14 +25,14 @@ pub record Item : Type 0 where
   pub last : ℕ
 
 -- the offset of the last byte, where the first entry ends at `last`
-abbrev pub last_from : ℕ → List Entry → ℕ
+abbrev pub last_from : ℕ → List PlacedCharacter → ℕ
 last_from last [] = last
 last_from last (entry ∷ entries) = last_from entry.last entries
 
 -- The characters are these tokens, one after another, where `next` stands after the last.
-pub data Spelled (syntax : Syntax) : List Entry → Option ℕ → List Item → Type 0 where
+pub data Spelled (syntax : Syntax) : List PlacedCharacter → Option ℕ → List Item → Type 0 where
   no_more : {next : Option ℕ} → Spelled syntax [] next []
-  one : {next : Option ℕ} (c : Entry) (run rest : List Entry) (item : Item) {items : List Item}
+  one : {next : Option ℕ} (c : PlacedCharacter) (run rest : List PlacedCharacter) (item : Item) {items : List Item}
       → Spells syntax item.content (values (c ∷ run)) (next_of (values rest) next) item.token → item.first ≡ c.first → item.last ≡ last_from c.last run
       → Spelled syntax rest next items → Spelled syntax ((c ∷ run) ++ rest) next (item ∷ items)
 
@@ -75,5 +75,5 @@ is_line_feed (reference c) = c == line_feed
 is_line_feed _ = false
 
 -- the start tag of an element, at its place
-abbrev pub start_of : Item → Tag → StartTag
-start_of item t = record { name = t.name; attributes = t.attributes; slash = t.slash; token = item.first; at = item.last }
+abbrev pub start_tag_of : Item → Tag → StartTag
+start_tag_of item t = record { name = t.name; attributes = t.attributes; slash = t.slash; token = item.first; at = item.last }

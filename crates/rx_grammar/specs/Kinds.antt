@@ -1,6 +1,8 @@
 -- The kinds of faults: their names, and which of them are no matter of the grammar.
-use Rattle.std.specs.Prelude.{Bool, true, false, codes}
+use Rattle.std.specs.Prelude.{ℕ, Bool, true, false, List, ◌++◌, codes}
+use Rattle.std.specs.Fmt.{decimal}
 use Rattle.rx_terms.specs.Text.{Chars}
+use Rattle.rx_grammar.specs.declared.faults.Fault.{Fault}
 use Rattle.rx_grammar.specs.declared.faults.Kind.{Kind}
 use Rattle.rx_grammar.specs.declared.faults.Kind.TheVariants as kind
 
@@ -36,3 +38,8 @@ is_of_meaning kind.RelativeVocab = true
 is_of_meaning kind.XmlLiteral = true
 is_of_meaning kind.HtmlLiteral = true
 is_of_meaning _ = false
+
+-- the line that tells of a refused page
+abbrev pub refused_line : Fault → List ℕ
+refused_line fault =
+    codes "refused: " ++ kind_name fault.kind ++ codes " at byte " ++ decimal fault.at ++ codes " in token " ++ decimal fault.token ++ codes "\n"

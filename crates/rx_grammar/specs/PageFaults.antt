@@ -2,7 +2,7 @@
 use Rattle.std.specs.Prelude.{◌≡◌, ◌≢◌, ℕ, ◌+◌, ◌≤◌, ◌<◌, ◌⊎◌, Bool, true, false, not, ◌||◌, ◌&&◌, ◌==◌, nat_le, List, [], ◌∷◌, ◌++◌, length, take, drop, codes, Option, Some, None, if◌then◌else◌}
 use Rattle.rx_terms.specs.Common.{list_any, ampersand, solidus, less_than_sign, greater_than_sign, is_white_space, right_bracket, Chars, lowered, begins_with}
 use Rattle.rx_chars.specs.Utf8.{IsCharacter, BeginsCharacter, BeginNone}
-use Rattle.rx_chars.specs.Characters.{Entry, IsRead}
+use Rattle.rx_chars.specs.Characters.{IsRead, PlacedCharacter}
 use Rattle.rx_chars.specs.declared.syntax.Syntax.{Syntax}
 use Rattle.rx_chars.specs.declared.syntax.Syntax.TheVariants.{Html, Xhtml}
 use Rattle.rx_grammar.specs.declared.contents.Content.{Content}
@@ -87,9 +87,9 @@ abbrev pub has_ended : Phase → Bool
 has_ended after = true
 has_ended _ = false
 
-abbrev pub is_before : Phase → Bool
-is_before (before stood) = true
-is_before _ = false
+abbrev pub is_before_root : Phase → Bool
+is_before_root (before stood) = true
+is_before_root _ = false
 
 abbrev pub is_no_line : Line → Bool
 is_no_line [] = true
@@ -107,7 +107,7 @@ first_row (row ∷ rows) = if row.0 then Some row.1 else first_row rows
 abbrev pub start_rows : Syntax → ℕ → Line → Phase → Tag → Rows
 start_rows syntax depth line phase t =
     (has_ended phase, kind.Outside)
-    ∷ (is_before phase && not (same t.name root_name), kind.RootNotHtml)
+    ∷ (is_before_root phase && not (same t.name root_name), kind.RootNotHtml)
     ∷ (is_plaintext syntax (inside_of syntax line) t, kind.Plaintext)
     ∷ (is_self_closed syntax (inside_of syntax line) t, kind.SelfClosed)
     ∷ (nat_le depth (length (under_start syntax t.name line)), kind.TooDeep)
@@ -170,8 +170,8 @@ pub data Faulty (syntax : Syntax) (depth : ℕ) (items : List Item) (line : Line
       → Faulty syntax depth items line phase inside found chars
 
 -- The bytes are whole characters: whole tokens at the front of a page, with `line` and `phase`, and a run of characters behind them.
-pub record Reached (syntax : Syntax) (limits : Limits) (bytes : List ℕ) (items : List Item) (line : Line) (phase : Phase) (run : List Entry) : Type 0 where
-  pub front : List Entry
+pub record Reached (syntax : Syntax) (limits : Limits) (bytes : List ℕ) (items : List Item) (line : Line) (phase : Phase) (run : List PlacedCharacter) : Type 0 where
+  pub front : List PlacedCharacter
   pub read : IsRead bytes (front ++ run)
   pub no_nul : has_no_nul (front ++ run) ≡ true
   pub spelled : Spelled syntax front (next_of (values run) None) items
@@ -180,12 +180,12 @@ pub record Reached (syntax : Syntax) (limits : Limits) (bytes : List ℕ) (items
   pub stands : Stands syntax limits.depth items line phase
 
 -- the offset of the first byte that belongs to no whole token
-abbrev pub token_of : List ℕ → List Entry → ℕ
+abbrev pub token_of : List ℕ → List PlacedCharacter → ℕ
 token_of bytes [] = length bytes
 token_of bytes (entry ∷ run) = entry.first
 
 -- a tag that begins at `token` has no more bytes before `at` than the limit, if the run is known to be one
-abbrev pub IsShort : Syntax → Limits → Line → List Entry → ℕ → ℕ → Type 0
+abbrev pub IsShort : Syntax → Limits → Line → List PlacedCharacter → ℕ → ℕ → Type 0
 IsShort syntax limits line run token at = is_known_tag syntax (inside_of syntax line).content (values run) ≡ true → at ≤ token + limits.tag
 
 -- bytes that begin a character, or none
@@ -206,7 +206,7 @@ pub record Before (syntax : Syntax) (limits : Limits) (bytes : List ℕ) (token 
   pub items : List Item
   pub line : Line
   pub phase : Phase
-  pub run : List Entry
+  pub run : List PlacedCharacter
   pub are : bytes ≡ whole ++ (part ++ byte ∷ rest)
   pub reached : Reached syntax limits whole items line phase run
   pub pending : IsPending syntax (inside_of syntax line).content (values run)
@@ -228,7 +228,7 @@ pub data FaultAt (syntax : Syntax) (limits : Limits) (bytes : List ℕ) : Fault 
       → is_known_tag syntax (inside_of syntax b.line).content (values b.run) ≡ true → at ≡ token + limits.tag → GoesOn (b.part ++ b.byte ∷ [])
       → FaultAt syntax limits bytes (record { kind = kind.TagTooLong; token = token; at = at })
   -- the character at which it is known, where the limit is passed then
-  known_too_long : (whole rest : List ℕ) (items : List Item) (line : Line) (phase : Phase) (first : Entry) (more : List Entry) (c : Entry)
+  known_too_long : (whole rest : List ℕ) (items : List Item) (line : Line) (phase : Phase) (first : PlacedCharacter) (more : List PlacedCharacter) (c : PlacedCharacter)
       → bytes ≡ whole ++ rest → Reached syntax limits whole items line phase ((first ∷ more) ++ c ∷ [])
       → Unfinished syntax (inside_of syntax line).content (values (first ∷ more))
       → is_known_tag syntax (inside_of syntax line).content (values (first ∷ more)) ≡ false
@@ -236,13 +236,13 @@ pub data FaultAt (syntax : Syntax) (limits : Limits) (bytes : List ℕ) : Fault 
       → first.first + limits.tag ≤ c.last → c.last < limits.page
       → FaultAt syntax limits bytes (record { kind = kind.TagTooLong; token = first.first; at = c.last })
   -- the last character of the run decides
-  decided : {found : Kind} (whole rest : List ℕ) (items : List Item) (line : Line) (phase : Phase) (run : List Entry) (c : Entry)
+  decided : {found : Kind} (whole rest : List ℕ) (items : List Item) (line : Line) (phase : Phase) (run : List PlacedCharacter) (c : PlacedCharacter)
       → bytes ≡ whole ++ rest → Reached syntax limits whole items line phase (run ++ c ∷ []) → IsPending syntax (inside_of syntax line).content (values run)
       → Faulty syntax limits.depth items line phase (inside_of syntax line).content found (values (run ++ c ∷ []))
       → IsShort syntax limits line (run ++ c ∷ []) (token_of whole (run ++ c ∷ [])) (c.last + 1) → c.last < limits.page
       → FaultAt syntax limits bytes (record { kind = found; token = token_of whole (run ++ c ∷ []); at = c.last })
   -- the page ends too early
-  unended : (whole part : List ℕ) (items : List Item) (line : Line) (phase : Phase) (run : List Entry)
+  unended : (whole part : List ℕ) (items : List Item) (line : Line) (phase : Phase) (run : List PlacedCharacter)
       → bytes ≡ whole ++ part → Reached syntax limits whole items line phase run → IsPending syntax (inside_of syntax line).content (values run) → IsPart part
       → (run ≡ [] → part ≡ [] → phase ≢ after) → length bytes ≤ limits.page → IsShort syntax limits line run (token_of whole run) (length bytes)
       → FaultAt syntax limits bytes (record { kind = kind.Unended; token = token_of whole run; at = length bytes })

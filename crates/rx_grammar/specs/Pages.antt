@@ -1,19 +1,19 @@
 -- What a page is, and which tree it has.
 use Rattle.std.specs.Prelude.{◌≡◌, ℕ, suc, ◌≤◌, ◌==◌, Bool, true, false, not, ◌&&◌, List, [], ◌∷◌, ◌++◌, length, codes, Some, None, if◌then◌else◌}
 use Rattle.rx_terms.specs.Common.{list_all, Chars}
-use Rattle.rx_chars.specs.Characters.{Entry, IsRead}
+use Rattle.rx_chars.specs.Characters.{IsRead, PlacedCharacter}
 use Rattle.rx_chars.specs.declared.syntax.Syntax.{Syntax}
 use Rattle.rx_grammar.specs.declared.contents.Content.{Content}
 use Rattle.rx_grammar.specs.declared.contents.Content.TheVariants as content
 use Rattle.rx_grammar.specs.declared.limits.Limits.{Limits}
 use Rattle.rx_grammar.specs.Tokens.{Tag, Token, tag, character, comment, doctype}
-use Rattle.rx_grammar.specs.Contents.{Place, outside, place_in, is_alone, is_self_closed, is_plaintext, hides, drops_line_feed}
+use Rattle.rx_grammar.specs.Contents.{Place, outside, place_inside, is_alone, is_self_closed, is_plaintext, hides, drops_line_feed}
 use Rattle.rx_grammar.specs.Trees.{end, element, Tree, after_text, has_element}
-use Rattle.rx_grammar.specs.Items.{Item, Spelled, AllFit, no_section_end, text_of, is_line_feed, start_of}
+use Rattle.rx_grammar.specs.Items.{Item, Spelled, AllFit, no_section_end, text_of, is_line_feed, start_tag_of}
 use Rattle.rx_grammar.specs.Omission.{enders, is_ended_by}
 
 -- the token is the start tag of an element that may stand at the place
-pub record Opens (syntax : Syntax) (place : Place) (item : Item) (t : Tag) : Type 0 where
+pub record IsStartTag (syntax : Syntax) (place : Place) (item : Item) (t : Tag) : Type 0 where
   pub content : item.content ≡ place.content
   pub token : item.token ≡ tag t
   pub start : t.closing ≡ false
@@ -21,7 +21,7 @@ pub record Opens (syntax : Syntax) (place : Place) (item : Item) (t : Tag) : Typ
   pub known : is_plaintext syntax place t ≡ false
 
 -- the token is the end tag of this name, at the end of such content
-pub record Closes (inner : Content) (name : Chars) (item : Item) : Type 0 where
+pub record IsEndTag (inner : Content) (name : Chars) (item : Item) : Type 0 where
   pub t : Tag
   pub content : item.content ≡ inner
   pub token : item.token ≡ tag t
@@ -50,25 +50,25 @@ pub data Holds (syntax : Syntax) : ℕ → Place → Chars → List Item → Lis
       → item.token ≡ comment
       → Holds syntax left place parent from to nodes → Holds syntax left place parent (item ∷ from) to nodes
   -- an element that is its start tag alone
-  alone : {left : ℕ} {place : Place} {parent : Chars} {from to : List Item} {nodes : Tree} (item : Item) (t : Tag) → Opens syntax place item t
+  alone : {left : ℕ} {place : Place} {parent : Chars} {from to : List Item} {nodes : Tree} (item : Item) (t : Tag) → IsStartTag syntax place item t
       → is_alone syntax place t ≡ true
-      → Holds syntax (suc left) place parent from to nodes → Holds syntax (suc left) place parent (item ∷ from) to (element (start_of item t) end nodes)
+      → Holds syntax (suc left) place parent from to nodes → Holds syntax (suc left) place parent (item ∷ from) to (element (start_tag_of item t) end nodes)
   -- a start tag, what is inside, and the end tag of its name
   closed : {left : ℕ} {place : Place} {parent : Chars} {from inner after to : List Item} {inside nodes : Tree} (item close : Item) (t : Tag)
-      → Opens syntax place item t → is_alone syntax place t ≡ false
-      → Drops (drops_line_feed place t) (place_in syntax place t.name).content from inner
-      → Holds syntax left (place_in syntax place t.name) t.name inner (close ∷ after) inside
-      → has_element (enders place t.name) inside ≡ false → Closes (place_in syntax place t.name).content t.name close
+      → IsStartTag syntax place item t → is_alone syntax place t ≡ false
+      → Drops (drops_line_feed place t) (place_inside syntax place t.name).content from inner
+      → Holds syntax left (place_inside syntax place t.name) t.name inner (close ∷ after) inside
+      → has_element (enders place t.name) inside ≡ false → IsEndTag (place_inside syntax place t.name).content t.name close
       → Holds syntax (suc left) place parent after to nodes
-      → Holds syntax (suc left) place parent (item ∷ from) to (element (start_of item t) (shown (hides place t) inside) nodes)
+      → Holds syntax (suc left) place parent (item ∷ from) to (element (start_tag_of item t) (shown (hides place t) inside) nodes)
   -- a start tag and what is inside, where its end tag may be omitted before what follows
   unclosed : {left : ℕ} {place : Place} {parent : Chars} {from inner after to : List Item} {inside nodes : Tree} (item : Item) (t : Tag)
-      → Opens syntax place item t → is_alone syntax place t ≡ false
-      → Drops (drops_line_feed place t) (place_in syntax place t.name).content from inner
-      → Holds syntax left (place_in syntax place t.name) t.name inner after inside
+      → IsStartTag syntax place item t → is_alone syntax place t ≡ false
+      → Drops (drops_line_feed place t) (place_inside syntax place t.name).content from inner
+      → Holds syntax left (place_inside syntax place t.name) t.name inner after inside
       → has_element (enders place t.name) inside ≡ false → is_ended_by place parent t.name after ≡ true
       → Holds syntax (suc left) place parent after to nodes
-      → Holds syntax (suc left) place parent (item ∷ from) to (element (start_of item t) (shown (hides place t) inside) nodes)
+      → Holds syntax (suc left) place parent (item ∷ from) to (element (start_tag_of item t) (shown (hides place t) inside) nodes)
 
 -- White space, comments and at most one document type. The last index tells whether there is one.
 abbrev pub is_between : Token → Bool
@@ -96,19 +96,19 @@ pub record Document (syntax : Syntax) (depth : ℕ) (items : List Item) (tree : 
   pub inside : Tree
   pub are : items ≡ before ++ root ∷ from
   pub lead : Lead before doctype_stands
-  pub opens : Opens syntax outside root t
+  pub opens : IsStartTag syntax outside root t
   pub named : t.name ≡ root_name
-  pub tree_is : tree ≡ element (start_of root t) inside end
+  pub tree_is : tree ≡ element (start_tag_of root t) inside end
   pub holds : Holds syntax depth outside [] (root ∷ from) after tree
   pub trail : Lead after false
 
 -- no character is U+0000
-abbrev pub has_no_nul : List Entry → Bool
+abbrev pub has_no_nul : List PlacedCharacter → Bool
 has_no_nul entries = list_all (λ entry. not (entry.value == 0)) entries
 
 -- The bytes are a page, and this is its tree.
 pub record Page (syntax : Syntax) (limits : Limits) (bytes : List ℕ) (tree : Tree) : Type 0 where
-  pub entries : List Entry
+  pub entries : List PlacedCharacter
   pub items : List Item
   pub size : length bytes ≤ limits.page
   pub read : IsRead bytes entries

@@ -56,9 +56,9 @@ number_from base number [] = number
 number_from base number (c ∷ digits) = number_from base (number * base + digit_value c) digits
 
 -- the number of a numeric reference: what stands after its `#`
-abbrev pub number_of : Chars → ℕ
-number_of [] = 0
-number_of (c ∷ digits) = if is_x c then number_from 16 0 digits else number_from 10 0 (c ∷ digits)
+abbrev pub reference_code : Chars → ℕ
+reference_code [] = 0
+reference_code (c ∷ digits) = if is_x c then number_from 16 0 digits else number_from 10 0 (c ∷ digits)
 
 -- XML 1.0, 4.6, predefined entities
 abbrev pub predefined : Chars → Option ℕ
@@ -74,7 +74,7 @@ name_meaning Xhtml name = predefined name
 -- the number of a body that isn't a name
 abbrev pub body_number : Chars → ℕ
 body_number [] = 0
-body_number (c ∷ text) = number_of text
+body_number (c ∷ text) = reference_code text
 
 -- the character that a reference stands for, or none where it is unknown or bad
 abbrev pub meaning : Syntax → Chars → Option ℕ

@@ -5,7 +5,7 @@ use Rattle.std.proofs.Math.Bool.{or-false, or_assoc}
 use Rattle.rx_terms.specs.declared.triples.Triple.{Triple as CodeTriple}
 use Rattle.rx_graph.specs.Resources.{number_in, object_by, live_by}
 use Rattle.rx_graph.specs.Rows.{empty_rows}
-use Rattle.rx_graph.specs.Patterns.{copies, places, ArePatterns, AreReferenced, edge_by, edges_by}
+use Rattle.rx_graph.specs.Patterns.{copies, triple_places, ArePatterns, AreReferenced, edge_by, edges_by}
 use Rattle.rx_graph.proofs.SetLemmas.{seen_more}
 
 -- ---- one more element
@@ -92,11 +92,11 @@ pub empty_more : (n : ℕ) → empty_rows (n + 1) ≡ empty_rows n ++ [] ∷ []
 empty_more zero = refl
 empty_more (suc n) = let up : suc n + 1 ≡ suc (n + 1) = omega arith in ap empty_rows up ∙ ap (λ z. [] ∷ z) (empty_more n)
 
-pub places_more : (test : Triple ℕ → Bool) (j : ℕ) (list : List (Triple ℕ)) (u : Triple ℕ) → places test j (list ++ u ∷ []) ≡ places test j list ++ (if test u then (j + length list) ∷ [] else [])
+pub places_more : (test : Triple ℕ → Bool) (j : ℕ) (list : List (Triple ℕ)) (u : Triple ℕ) → triple_places test j (list ++ u ∷ []) ≡ triple_places test j list ++ (if test u then (j + length list) ∷ [] else [])
 places_more test j [] u = let same : j ≡ j + 0 = omega arith in ap (λ n. if test u then n ∷ [] else []) same
 places_more test j (t ∷ list) u =
     let further : suc j + length list ≡ j + suc (length list) = omega arith in
-    let rest = places_more test (suc j) list u ∙ ap (λ n. places test (suc j) list ++ (if test u then n ∷ [] else [])) further in
+    let rest = places_more test (suc j) list u ∙ ap (λ n. triple_places test (suc j) list ++ (if test u then n ∷ [] else [])) further in
     by_test (test t) (λ e. rw e (ap (λ z. j ∷ z) rest)) (λ e. rw e rest)
 
 pub length_so_far : (list : List CodeTriple) (i : ℕ) (u : CodeTriple) → slice_get list i ≡ Some u → 0 + length (triples_seen (take i list)) ≡ i

@@ -2,7 +2,7 @@
 use Rattle.rx_model.proofs.Common.{◌≡◌, ℕ, suc, ◌+◌, ◌<◌, ◌≤◌, Bool, true, false, nat_eq, List, [], ◌∷◌, ◌++◌, flat_map, filter_map, length, take, get_or, slice_get, Option, Some, None, is_none, refl, sym, ap, ap₂, subst, ◌∙◌, true≢false, arith, append-nil, inl, inr, ⊎_elim, not, ◌&&◌, ◌||◌, if◌then◌else◌, cases_lt, cons_option, sum_by, nat_tests, take_all, filter_map-append, by_test, IsPermutation, IsNonDecreasing, IsPermutation-refl, IsPermutation-trans, IsPermutation-cons, IsPermutation-middle, IsPermutation-append, sum_by-IsPermutation, sum_by-cons, flat_map-append, Among, contains, with_one, with_all, Node, Triple, same_node, same_triple, live, edges, treated, copied, is_referenced, says_pattern, spo, leads, given, triple_seen, triples_seen, exact_numbers, exact_triples, Among-contains, or_cases, or_left, or_right}
 use Rattle.std.specs.Option.{option_to_list}
 use Rattle.rx_terms.specs.declared.triples.Triple.{Triple as CodeTriple}
-use Rattle.rx_graph.specs.Patterns.{places, ArePatterns, AreReferenced, edges_by, given_one}
+use Rattle.rx_graph.specs.Patterns.{triple_places, ArePatterns, AreReferenced, edges_by, given_one}
 use Rattle.rx_graph.specs.Copying.{gives, contents, given_from, given_at}
 use Rattle.rx_graph.specs.Ways.{EachOnce}
 use Rattle.rx_graph.proofs.Growing.{all_append, all_distinct}
@@ -12,22 +12,22 @@ use Rattle.rx_graph.proofs.PatternLemmas.{edges_are}
 -- ---- places and triples
 
 -- where a triple passes there is a place
-pub place_for : (test : Triple ℕ → Bool) (j : ℕ) (list : List (Triple ℕ)) (u : Triple ℕ) → Among list u → test u ≡ true → length (places test j list) ≡ 0 → ⊥
+pub place_for : (test : Triple ℕ → Bool) (j : ℕ) (list : List (Triple ℕ)) (u : Triple ℕ) → Among list u → test u ≡ true → length (triple_places test j list) ≡ 0 → ⊥
 place_for test j [] u h p e = h
-place_for test j (t ∷ list) u (inl q) p e = let some : length (j ∷ places test (suc j) list) ≡ 0 = rw (ap test q ∙ p) at e in omega (arith, some)
-place_for test j (t ∷ list) u (inr m) p e = by_test (test t) (λ y. let some : length (j ∷ places test (suc j) list) ≡ 0 = rw y at e in omega (arith, some)) (λ n. place_for test (suc j) list u m p (rw n at e))
+place_for test j (t ∷ list) u (inl q) p e = let some : length (j ∷ triple_places test (suc j) list) ≡ 0 = rw (ap test q ∙ p) at e in omega (arith, some)
+place_for test j (t ∷ list) u (inr m) p e = by_test (test t) (λ y. let some : length (j ∷ triple_places test (suc j) list) ≡ 0 = rw y at e in omega (arith, some)) (λ n. place_for test (suc j) list u m p (rw n at e))
 
 -- ---- two tests that no triple passes both
 
-merge : (p q : Triple ℕ → Bool) → ((t : Triple ℕ) → p t ≡ true → q t ≡ true → ⊥) → (j : ℕ) (list : List (Triple ℕ)) → IsPermutation (places p j list ++ places q j list) (places (λ t. p t || q t) j list)
+merge : (p q : Triple ℕ → Bool) → ((t : Triple ℕ) → p t ≡ true → q t ≡ true → ⊥) → (j : ℕ) (list : List (Triple ℕ)) → IsPermutation (triple_places p j list ++ triple_places q j list) (triple_places (λ t. p t || q t) j list)
 merge p q apart j [] = IsPermutation-refl []
 merge p q apart j (t ∷ list) =
     let rest = merge p q apart (suc j) list in
-    let behind = IsPermutation-trans _ _ _ (IsPermutation-middle (places p (suc j) list) j (places q (suc j) list)) (IsPermutation-cons j _ _ rest) in
+    let behind = IsPermutation-trans _ _ _ (IsPermutation-middle (triple_places p (suc j) list) j (triple_places q (suc j) list)) (IsPermutation-cons j _ _ rest) in
     by_test (p t) (λ e. by_test (q t) (λ f. absurd (apart t e f)) (λ f. rw (e, f) (IsPermutation-cons j _ _ rest)))
     (λ e. by_test (q t) (λ f. rw (e, f) behind) (λ f. rw (e, f) rest))
 
-no_places : (j : ℕ) (list : List (Triple ℕ)) → places (λ t. false) j list ≡ []
+no_places : (j : ℕ) (list : List (Triple ℕ)) → triple_places (λ t. false) j list ≡ []
 no_places j [] = refl
 no_places j (t ∷ list) = no_places (suc j) list
 
@@ -47,10 +47,10 @@ any_by test (y ∷ numbers) t x (inr m) h = or_right (test y t) (any_of test num
 
 -- rows that are places, one after another, are the places of all
 gathered : (rows : List (List ℕ)) (test : ℕ → Triple ℕ → Bool) → ((x y : ℕ) (t : Triple ℕ) → test x t ≡ true → test y t ≡ true → x ≡ y) → (list : List (Triple ℕ)) (numbers : List ℕ) → EachOnce numbers
-    → ((x : ℕ) → Among numbers x → get_or rows x [] ≡ places (test x) 0 list) → IsPermutation (flat_map (λ (x : ℕ). get_or rows x []) numbers) (places (any_of test numbers) 0 list)
+    → ((x : ℕ) → Among numbers x → get_or rows x [] ≡ triple_places (test x) 0 list) → IsPermutation (flat_map (λ (x : ℕ). get_or rows x []) numbers) (triple_places (any_of test numbers) 0 list)
 gathered rows test tells list [] d are = subst (IsPermutation []) (sym (no_places 0 list)) (IsPermutation-refl [])
 gathered rows test tells list (x ∷ numbers) d are = rw (are x (inl refl)) (IsPermutation-trans _ _ _
-    (IsPermutation-append (places (test x) 0 list) (places (test x) 0 list) (flat_map (λ (y : ℕ). get_or rows y []) numbers) (places (any_of test numbers) 0 list) (IsPermutation-refl (places (test x) 0 list))
+    (IsPermutation-append (triple_places (test x) 0 list) (triple_places (test x) 0 list) (flat_map (λ (y : ℕ). get_or rows y []) numbers) (triple_places (any_of test numbers) 0 list) (IsPermutation-refl (triple_places (test x) 0 list))
     (gathered rows test tells list numbers d.1 (λ y m. are y (inr m))))
     (merge (test x) (any_of test numbers) apart 0 list))
   where
@@ -104,20 +104,20 @@ lower : (m n : ℕ) (xs : List ℕ) → m ≤ n → Rises n xs → Rises m xs
 lower m n [] l h = tt
 lower m n (x ∷ xs) l h = (omega (arith, l, h.0), h.1)
 
-places_rise : (test : Triple ℕ → Bool) (j : ℕ) (list : List (Triple ℕ)) → Rises j (places test j list)
+places_rise : (test : Triple ℕ → Bool) (j : ℕ) (list : List (Triple ℕ)) → Rises j (triple_places test j list)
 places_rise test j [] = tt
 places_rise test j (t ∷ list) =
-    let rest = lower j (suc j) (places test (suc j) list) (omega arith) (places_rise test (suc j) list) in
+    let rest = lower j (suc j) (triple_places test (suc j) list) (omega arith) (places_rise test (suc j) list) in
     by_test (test t) (λ e. rw e (omega arith, rest)) (λ e. rw e rest)
 
 -- sorted, what was gathered is the places of all
 pub sorted_places : (rows : List (List ℕ)) (test : ℕ → Triple ℕ → Bool) → ((x y : ℕ) (t : Triple ℕ) → test x t ≡ true → test y t ≡ true → x ≡ y) → (list : List (Triple ℕ)) (numbers sorted : List ℕ) → EachOnce numbers
-    → ((x : ℕ) → Among numbers x → get_or rows x [] ≡ places (test x) 0 list) → IsPermutation (flat_map (λ (x : ℕ). get_or rows x []) numbers) sorted → IsNonDecreasing sorted → sorted ≡ places (any_of test numbers) 0 list
+    → ((x : ℕ) → Among numbers x → get_or rows x [] ≡ triple_places (test x) 0 list) → IsPermutation (flat_map (λ (x : ℕ). get_or rows x []) numbers) sorted → IsNonDecreasing sorted → sorted ≡ triple_places (any_of test numbers) 0 list
 sorted_places rows test tells list numbers sorted d are p rises =
-    same_counts 0 0 sorted (places (any_of test numbers) 0 list) (from_steps 0 sorted (λ i l. omega arith) rises) (places_rise (any_of test numbers) 0 list)
+    same_counts 0 0 sorted (triple_places (any_of test numbers) 0 list) (from_steps 0 sorted (λ i l. omega arith) rises) (places_rise (any_of test numbers) 0 list)
     (λ v. let once : ℕ → ℕ = λ x. if nat_eq x v then 1 else 0 in
     sum_by-IsPermutation once (flat_map (λ (x : ℕ). get_or rows x []) numbers) sorted p
-    ∙ sym (sum_by-IsPermutation once (flat_map (λ (x : ℕ). get_or rows x []) numbers) (places (any_of test numbers) 0 list) (gathered rows test tells list numbers d are)))
+    ∙ sym (sum_by-IsPermutation once (flat_map (λ (x : ℕ). get_or rows x []) numbers) (triple_places (any_of test numbers) 0 list) (gathered rows test tells list numbers d are)))
 
 pub gathered_more : (rows : List (List ℕ)) (numbers : List ℕ) (i x : ℕ) → slice_get numbers i ≡ Some x → flat_map (λ (a : ℕ). get_or rows a []) (take (i + 1) numbers) ≡ flat_map (λ (a : ℕ). get_or rows a []) (take i numbers) ++ get_or rows x []
 gathered_more rows numbers i x at =
@@ -125,7 +125,7 @@ gathered_more rows numbers i x at =
     ∙ ap (λ z. flat_map (λ (a : ℕ). get_or rows a []) (take i numbers) ++ z) (append-nil (get_or rows x []))
 
 -- two tests that agree on a list have the same places
-pub same_places : (p q : Triple ℕ → Bool) (j : ℕ) (list : List (Triple ℕ)) → ((t : Triple ℕ) → Among list t → p t ≡ q t) → places p j list ≡ places q j list
+pub same_places : (p q : Triple ℕ → Bool) (j : ℕ) (list : List (Triple ℕ)) → ((t : Triple ℕ) → Among list t → p t ≡ q t) → triple_places p j list ≡ triple_places q j list
 same_places p q j [] h = refl
 same_places p q j (t ∷ list) h = ap₂ (λ (b : Bool) (z : List ℕ). if b then j ∷ z else z) (h t (inl refl)) (same_places p q (suc j) list (λ u m. h u (inr m)))
 
@@ -136,20 +136,20 @@ listed None = refl
 listed (Some t) = refl
 
 -- one place more
-pub given_turn : (list : List (Triple ℕ)) (s : Node ℕ) (places : List ℕ) (k i : ℕ) (start old new : List (Triple ℕ)) → slice_get places k ≡ Some i
+pub given_turn : (list : List (Triple ℕ)) (s : Node ℕ) (triple_places : List ℕ) (k i : ℕ) (start old new : List (Triple ℕ)) → slice_get triple_places k ≡ Some i
     → new ≡ with_all (same_triple nat_eq) old (option_to_list (given_at list s i))
-    → old ≡ with_all (same_triple nat_eq) start (filter_map (given_at list s) (take k places)) → new ≡ with_all (same_triple nat_eq) start (filter_map (given_at list s) (take (k + 1) places))
-given_turn list s places k i start old new at turn before =
+    → old ≡ with_all (same_triple nat_eq) start (filter_map (given_at list s) (take k triple_places)) → new ≡ with_all (same_triple nat_eq) start (filter_map (given_at list s) (take (k + 1) triple_places))
+given_turn list s triple_places k i start old new at turn before =
     turn ∙ ap (λ z. with_all (same_triple nat_eq) z (option_to_list (given_at list s i))) before
-    ∙ sym (all_append (same_triple nat_eq) start (filter_map (given_at list s) (take k places)) (option_to_list (given_at list s i)))
-    ∙ ap (with_all (same_triple nat_eq) start) (ap (λ z. filter_map (given_at list s) (take k places) ++ z) (sym (listed (given_at list s i))) ∙ sym (filter_map-append (given_at list s) (take k places) (i ∷ [])) ∙ ap (filter_map (given_at list s)) (sym (one_more places k i at)))
+    ∙ sym (all_append (same_triple nat_eq) start (filter_map (given_at list s) (take k triple_places)) (option_to_list (given_at list s i)))
+    ∙ ap (with_all (same_triple nat_eq) start) (ap (λ z. filter_map (given_at list s) (take k triple_places) ++ z) (sym (listed (given_at list s i))) ∙ sym (filter_map-append (given_at list s) (take k triple_places) (i ∷ [])) ∙ ap (filter_map (given_at list s)) (sym (one_more triple_places k i at)))
 
 if_given : (list : List (Triple ℕ)) (s : Node ℕ) (test : Triple ℕ → Bool) → Triple ℕ → Option (Triple ℕ)
 if_given list s test u = if test u then given_one list s u else None
 
 -- over all places of triples that pass
 all_given : (whole : List (Triple ℕ)) (s : Node ℕ) (test : Triple ℕ → Bool) (j : ℕ) (list : List (Triple ℕ)) → ((n : ℕ) → slice_get whole (j + n) ≡ slice_get list n)
-    → filter_map (given_at whole s) (places test j list) ≡ filter_map (if_given whole s test) list
+    → filter_map (given_at whole s) (triple_places test j list) ≡ filter_map (if_given whole s test) list
 unfolding if_given
 all_given whole s test j [] h = refl
 all_given whole s test j (t ∷ list) h =

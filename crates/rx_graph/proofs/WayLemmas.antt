@@ -7,43 +7,43 @@ use Rattle.rx_unique.specs.Unique.{insert_key}
 use Rattle.rx_graph.proofs.Growing.{has_one}
 use Rattle.rx_graph.specs.Rows.{pushed, empty_rows}
 use Rattle.rx_graph.specs.Numbering.{numbers_to}
-use Rattle.rx_graph.specs.Ways.{mark_at, Step, Goes, stays, goes_on, turned_row, IsTurned, spread_one, spread_all, Marked, LeadsToMark, Joined, next_row, AreNexts, merged, only_lead, all_led, is_led, AreLed, led_one, led_all, Led, led_here, led_on, EachOnce, IsWalk}
+use Rattle.rx_graph.specs.Ways.{mark_at, LeadsAtOnce, LeadsTo, stays, goes_on, turned_row, IsTurned, spread_one, spread_all, Marked, LeadsToMark, Joined, next_row, AreNexts, merged_lead, only_lead, all_led, is_led, AreLed, led_one, led_all, LedByMarks, led_here, led_on, EachOnce, IsWalk}
 use Rattle.rx_graph.proofs.NumberedLemmas.{size as numbers_length}
 
 -- ---- ways
 
 -- one way after another
-pub goes_trans : (rows : List (List ℕ)) (a b c : ℕ) → Goes rows a b → Goes rows b c → Goes rows a c
+pub goes_trans : (rows : List (List ℕ)) (a b c : ℕ) → LeadsTo rows a b → LeadsTo rows b c → LeadsTo rows a c
 goes_trans rows a b _ h stays = h
 goes_trans rows a b _ h (goes_on x c k s) = goes_on x c (goes_trans rows a b x h k) s
 
 -- what goes in the rows turned round comes back in the rows
-pub turned_goes : (rows turned : List (List ℕ)) (a b : ℕ) → IsTurned rows turned → Goes turned a b → Goes rows b a
+pub turned_goes : (rows turned : List (List ℕ)) (a b : ℕ) → IsTurned rows turned → LeadsTo turned a b → LeadsTo rows b a
 turned_goes rows turned a _ t stays = stays
 turned_goes rows turned a _ t (goes_on x c h s) = goes_trans rows c x a (goes_on c x stays (t.each x c s)) (turned_goes rows turned a x t h)
 
 -- ways by steps that are ways
-pub goes_by : (rows nexts : List (List ℕ)) (a b : ℕ) → ((x y : ℕ) → Step nexts x y → Goes rows x y) → Goes nexts a b → Goes rows a b
+pub goes_by : (rows nexts : List (List ℕ)) (a b : ℕ) → ((x y : ℕ) → LeadsAtOnce nexts x y → LeadsTo rows x y) → LeadsTo nexts a b → LeadsTo rows a b
 goes_by rows nexts a _ h stays = stays
 goes_by rows nexts a _ h (goes_on x c k s) = goes_trans rows a x c (goes_by rows nexts a x h k) (h x c s)
 
 -- ---- rows
 
 -- what leads to something is a row's number
-pub step_within : (rows : List (List ℕ)) (a b : ℕ) → Step rows a b → a < length rows
+pub step_within : (rows : List (List ℕ)) (a b : ℕ) → LeadsAtOnce rows a b → a < length rows
 step_within rows a b s = ⊎_elim (λ l. l) (λ l. absurd (subst (λ (z : List ℕ). Among z b) (get_or_past rows a [] l) s)) (cases_lt a (length rows))
 
-pub pushed_new : (rows : List (List ℕ)) (a n : ℕ) → a < length rows → Step (pushed rows a n) a n
+pub pushed_new : (rows : List (List ℕ)) (a n : ℕ) → a < length rows → LeadsAtOnce (pushed rows a n) a n
 pushed_new [] a n h = absurd (omega (arith, h))
 pushed_new (row ∷ rows) zero n h = Among_right row (n ∷ []) n (inl refl)
 pushed_new (row ∷ rows) (suc a) n h = pushed_new rows a n (omega (arith, h))
 
-pushed_old : (rows : List (List ℕ)) (a n x b : ℕ) → Step rows x b → Step (pushed rows a n) x b
+pushed_old : (rows : List (List ℕ)) (a n x b : ℕ) → LeadsAtOnce rows x b → LeadsAtOnce (pushed rows a n) x b
 pushed_old (row ∷ rows) (suc a) n (suc x) b h = pushed_old rows a n x b h
 pushed_old (row ∷ rows) zero n zero b h = Among_left row (n ∷ []) b h
 pushed_old _ _ n _ b h = h
 
-pushed_each : (P : ℕ → ℕ → Type 0) (rows : List (List ℕ)) (a n : ℕ) → P a n → ((x b : ℕ) → Step rows x b → P x b) → (x b : ℕ) → Step (pushed rows a n) x b → P x b
+pushed_each : (P : ℕ → ℕ → Type 0) (rows : List (List ℕ)) (a n : ℕ) → P a n → ((x b : ℕ) → LeadsAtOnce rows x b → P x b) → (x b : ℕ) → LeadsAtOnce (pushed rows a n) x b → P x b
 pushed_each P (row ∷ rows) (suc a) n p h (suc x) b s = pushed_each (λ z. P (suc z)) rows a n p (λ z. h (suc z)) x b s
 pushed_each P (row ∷ rows) zero n p h zero b s = elim (Among_cases row (n ∷ []) b s) [ inl k ↦ h zero b k | inr k ↦ elim k [ inl e ↦ subst (P zero) e p | inr m ↦ absurd m ] ]
 pushed_each P _ _ n p h x b s = h x b s
@@ -68,8 +68,8 @@ pushed_row (row ∷ rows) (suc a) n (suc x) h = let e : nat_eq (suc x) (suc a) �
 -- new is old with numbers at the ends of rows: all steps are so if the old ones are
 pub record Put (P : ℕ → ℕ → Type 0) (old new : List (List ℕ)) : Type 0 where
   pub size : length new ≡ length old
-  pub kept : (x b : ℕ) → Step old x b → Step new x b
-  pub each : ((x b : ℕ) → Step old x b → P x b) → (x b : ℕ) → Step new x b → P x b
+  pub kept : (x b : ℕ) → LeadsAtOnce old x b → LeadsAtOnce new x b
+  pub each : ((x b : ℕ) → LeadsAtOnce old x b → P x b) → (x b : ℕ) → LeadsAtOnce new x b → P x b
 
 module _ (P : ℕ → ℕ → Type 0) where
   pub put_none : (rows : List (List ℕ)) → Put P rows rows
@@ -85,7 +85,7 @@ pub empty_row : (n a : ℕ) → get_or (empty_rows n) a [] ≡ []
 empty_row (suc n) (suc a) = empty_row n a
 empty_row _ _ = refl
 
-pub empty_none : (rows : List (List ℕ)) (n : ℕ) → rows ≡ empty_rows n → (a b : ℕ) → Step rows a b → ⊥
+pub empty_none : (rows : List (List ℕ)) (n : ℕ) → rows ≡ empty_rows n → (a b : ℕ) → LeadsAtOnce rows a b → ⊥
 empty_none rows n e a b s = subst (λ (z : List ℕ). Among z b) (ap (λ (z : List (List ℕ)). get_or z a []) e ∙ empty_row n a) s
 
 pub empty_length : (n : ℕ) → length (empty_rows n) ≡ n
@@ -103,7 +103,7 @@ turned_start rows turned n size e = record { size = ap length e ∙ empty_length
 
 pub turned_turn : (rows old new : List (List ℕ)) (a : ℕ) (row : List ℕ) → row ≡ get_or rows a [] → new ≡ turned_row a old row → IsTurned rows old → IsTurned rows new
 turned_turn rows old new a row here turn t =
-    let put = turned_put (λ x y. Step rows y x) a old row (λ b m. subst (λ (z : List ℕ). Among z b) here m) in
+    let put = turned_put (λ x y. LeadsAtOnce rows y x) a old row (λ b m. subst (λ (z : List ℕ). Among z b) here m) in
     rw turn (record { size = put.size ∙ t.size; each = put.each t.each })
 
 -- ---- marks
@@ -138,11 +138,11 @@ marked_start rows marks n size e = rw e (record {
   each = λ a l. let least = least_mark n n a a (λ k. k) in absurd (omega (arith, size, l, least));
 })
 
-spread_one_marked : (rows : List (List ℕ)) (root : ℕ) (marks : List ℕ) (b : ℕ) → Marked rows marks → (root < length rows → Goes rows root b) → Marked rows (spread_one root marks b)
+spread_one_marked : (rows : List (List ℕ)) (root : ℕ) (marks : List ℕ) (b : ℕ) → Marked rows marks → (root < length rows → LeadsTo rows root b) → Marked rows (spread_one root marks b)
 spread_one_marked rows root marks b m h = by_test (nat_lt (mark_at marks b) (length marks)) (λ e. rw e m)
-    (λ e. rw e (record { size = length-set marks b root ∙ m.size; each = set_each (λ a z. z < length rows → Goes rows z a) (λ a. a) marks b root h m.each }))
+    (λ e. rw e (record { size = length-set marks b root ∙ m.size; each = set_each (λ a z. z < length rows → LeadsTo rows z a) (λ a. a) marks b root h m.each }))
 
-spread_all_marked : (rows : List (List ℕ)) (root : ℕ) (marks row : List ℕ) → Marked rows marks → ((b : ℕ) → Among row b → root < length rows → Goes rows root b) → Marked rows (spread_all root marks row)
+spread_all_marked : (rows : List (List ℕ)) (root : ℕ) (marks row : List ℕ) → Marked rows marks → ((b : ℕ) → Among row b → root < length rows → LeadsTo rows root b) → Marked rows (spread_all root marks row)
 spread_all_marked rows root marks [] m h = m
 spread_all_marked rows root marks (b ∷ row) m h = spread_all_marked rows root (spread_one root marks b) row (spread_one_marked rows root marks b m (h b (inl refl))) (λ c k. h c (inr k))
 
@@ -177,8 +177,8 @@ pub joined_turn : (rows : List (List ℕ)) (back forth : List ℕ) → LeadsToMa
 joined_turn rows back forth b f a r n size is old new turn j = rw turn (record {
   size = length-set old a r ∙ j.size;
   within = set_each (λ x z. x < length rows → z < length rows) (λ x. x) old a r (λ l. elim is [ inl e ↦ omega (arith, e, l) | inr e ↦ omega (arith, e.2, size) ]) j.within;
-  down = set_each (λ x z. Goes rows z x) (λ x. x) old a r (elim is [ inl e ↦ rw e stays | inr e ↦ rw e.1 (f.each a (omega (arith, e.1, e.2, size))) ]) j.down;
-  up = set_each (λ x z. Goes rows x z) (λ x. x) old a r (elim is [ inl e ↦ rw e stays | inr e ↦ rw e.0 (b.each a (omega (arith, e.0, e.2, size))) ]) j.up;
+  down = set_each (λ x z. LeadsTo rows z x) (λ x. x) old a r (elim is [ inl e ↦ rw e stays | inr e ↦ rw e.1 (f.each a (omega (arith, e.1, e.2, size))) ]) j.down;
+  up = set_each (λ x z. LeadsTo rows x z) (λ x. x) old a r (elim is [ inl e ↦ rw e stays | inr e ↦ rw e.0 (b.each a (omega (arith, e.0, e.2, size))) ]) j.up;
 })
 
 -- ---- what roots lead to
@@ -194,7 +194,7 @@ module _ (roots : List ℕ) (a : ℕ) where
   next_put P nexts [] h = put_none P nexts
   next_put P nexts (b ∷ row) h = put_then P nexts (next_one nexts b) (next_row roots a (next_one nexts b) row) (next_one_put P nexts b (h b (inl refl))) (next_put P (next_one nexts b) row (λ c m. h c (inr m)))
 
-  next_new : (nexts : List (List ℕ)) (row : List ℕ) (b : ℕ) → a < length nexts → Among row b → (a ≡ mark_at roots b) ⊎ Step (next_row roots a nexts row) a (mark_at roots b)
+  next_new : (nexts : List (List ℕ)) (row : List ℕ) (b : ℕ) → a < length nexts → Among row b → (a ≡ mark_at roots b) ⊎ LeadsAtOnce (next_row roots a nexts row) a (mark_at roots b)
   next_new nexts [] b l h = absurd h
   next_new nexts (c ∷ row) b l (inr m) = next_new (next_one nexts c) row b (omega (arith, l, (next_one_put (λ x y. Unit {0}) nexts c tt).size)) m
   next_new nexts (c ∷ row) b l (inl e) = by_test (nat_eq a (mark_at roots c)) (λ q. inl ((Decides-eqb a (mark_at roots c)).0 q ∙ ap (mark_at roots) e))
@@ -203,8 +203,8 @@ module _ (roots : List ℕ) (a : ℕ) where
 -- as far as a row
 pub record NextsTo (rows : List (List ℕ)) (roots : List ℕ) (nexts : List (List ℕ)) (i : ℕ) : Type 0 where
   pub size : length nexts ≡ length rows
-  pub sound : (a b : ℕ) → Step nexts a b → Goes rows a b
-  pub complete : (a b : ℕ) → a < i → Step rows a b → (mark_at roots a ≡ mark_at roots b) ⊎ Step nexts (mark_at roots a) (mark_at roots b)
+  pub sound : (a b : ℕ) → LeadsAtOnce nexts a b → LeadsTo rows a b
+  pub complete : (a b : ℕ) → a < i → LeadsAtOnce rows a b → (mark_at roots a ≡ mark_at roots b) ⊎ LeadsAtOnce nexts (mark_at roots a) (mark_at roots b)
 
 pub nexts_start : (rows : List (List ℕ)) (roots : List ℕ) (nexts : List (List ℕ)) (n : ℕ) → n ≡ length rows → nexts ≡ empty_rows n → NextsTo rows roots nexts 0
 nexts_start rows roots nexts n size e = record {
@@ -217,7 +217,7 @@ pub nexts_turn : (rows : List (List ℕ)) (roots : List ℕ) (old new : List (Li
     → new ≡ next_row roots root old row → NextsTo rows roots old i → NextsTo rows roots new (i + 1)
 nexts_turn rows roots old new i root row j inside here is turn h =
     let mine : List ℕ = get_or rows i [] in
-    let put = next_put roots (mark_at roots i) (Goes rows) old (get_or rows i []) (λ b m. goes_trans rows (mark_at roots i) b (mark_at roots b) (goes_on i b (j.down i) m) (j.up b)) in
+    let put = next_put roots (mark_at roots i) (LeadsTo rows) old (get_or rows i []) (λ b m. goes_trans rows (mark_at roots i) b (mark_at roots b) (goes_on i b (j.down i) m) (j.up b)) in
     rw (turn, is, here) (record {
       size = put.size ∙ h.size;
       sound = put.each h.sound;
@@ -225,7 +225,7 @@ nexts_turn rows roots old new i root row j inside here is turn h =
         | inl less ↦ elim (h.complete a b less s) [ inl e ↦ inl e | inr k ↦ inr (put.kept (mark_at roots a) (mark_at roots b) k) ]
         | inr more ↦ (
             let same : a ≡ i = omega (arith, l, more) in
-            rw same (next_new roots (mark_at roots i) old (get_or rows i []) b (omega (arith, h.size, j.within i inside)) (subst (λ (n : ℕ). Step rows n b) same s))
+            rw same (next_new roots (mark_at roots i) old (get_or rows i []) b (omega (arith, h.size, j.within i inside)) (subst (λ (n : ℕ). LeadsAtOnce rows n b) same s))
             )
       ];
     })
@@ -237,7 +237,7 @@ nexts_end rows roots nexts i past h = record { size = h.size; sound = h.sound; c
 
 only_so : (P : ℕ → Type 0) (lead : List ℕ) (a only : ℕ) (row : List ℕ) → P only → P a → ((b : ℕ) → Among row b → P (mark_at lead b)) → P (only_lead lead a only row)
 only_so P lead a only [] p q h = p
-only_so P lead a only (c ∷ row) p q h = only_so P lead a (merged a (length lead) only (mark_at lead c)) row (go (nat_lt (mark_at lead c) (length lead) && not (nat_eq (mark_at lead c) only)) (nat_lt only (length lead))) q (λ b m. h b (inr m))
+only_so P lead a only (c ∷ row) p q h = only_so P lead a (merged_lead a (length lead) only (mark_at lead c)) row (go (nat_lt (mark_at lead c) (length lead) && not (nat_eq (mark_at lead c) only)) (nat_lt only (length lead))) q (λ b m. h b (inr m))
   where
     go : (t u : Bool) → P (if t then (if u then a else mark_at lead c) else only)
     go true true = q
@@ -252,10 +252,10 @@ pub leads_turn : (nexts : List (List ℕ)) (old new own row : List ℕ) (top : �
     → new ≡ (if nat_eq (length own) 0 then slice_set old top (only_lead old top (length old) row) else old) → LeadsToMark nexts old → LeadsToMark nexts new
 leads_turn nexts old new own row top here turn h =
     let only : ℕ = only_lead old top (length old) row in
-    let goes = only_so (λ z. z < length nexts → Goes nexts top z) old top (length old) row (λ l. absurd (omega (arith, l, h.size))) (λ l. stays)
+    let goes = only_so (λ z. z < length nexts → LeadsTo nexts top z) old top (length old) row (λ l. absurd (omega (arith, l, h.size))) (λ l. stays)
     (λ b m l. goes_trans nexts top b (mark_at old b) (goes_on top b stays (subst (λ (z : List ℕ). Among z b) here m)) (h.each b l)) in
     rw turn (by_test (nat_eq (length own) 0)
-    (λ e. rw e (record { size = length-set old top only ∙ h.size; each = set_each (λ a z. z < length nexts → Goes nexts a z) (λ a. a) old top only goes h.each }))
+    (λ e. rw e (record { size = length-set old top only ∙ h.size; each = set_each (λ a z. z < length nexts → LeadsTo nexts a z) (λ a. a) old top only goes h.each }))
     (λ e. rw e h))
 
 -- as far as a root
@@ -325,8 +325,8 @@ all_led_in lead old (c ∷ row) b (inl e) l =
 
 pub record Walking (nexts : List (List ℕ)) (lead : List ℕ) (from : ℕ) (reached : List ℕ) (done : ℕ) : Type 0 where
   pub start : from < length lead → Among reached from
-  pub sound : (a : ℕ) → Among reached a → Led nexts lead from a
-  pub closed : (a b : ℕ) → Among (take done reached) a → Step nexts a b → mark_at lead b < length lead → Among reached (mark_at lead b)
+  pub sound : (a : ℕ) → Among reached a → LedByMarks nexts lead from a
+  pub closed : (a b : ℕ) → Among (take done reached) a → LeadsAtOnce nexts a b → mark_at lead b < length lead → Among reached (mark_at lead b)
 
 pub walking_start : (nexts : List (List ℕ)) (lead : List ℕ) (from : ℕ) (empty reached : List ℕ) (n : ℕ) → n ≡ length lead → empty ≡ [] → reached ≡ (if nat_lt from n then with_one nat_eq empty from else empty) → Walking nexts lead from reached 0
 walking_start nexts lead from empty reached n size none is = rw (is, none) (record {
@@ -335,8 +335,8 @@ walking_start nexts lead from empty reached n size none is = rw (is, none) (reco
   closed = λ a b m. absurd m;
 })
   where
-    go : (t : Bool) → nat_lt from n ≡ t → (a : ℕ) → Among (if t then from ∷ [] else []) a → Led nexts lead from a
-    go true e a (inl q) = subst (Led nexts lead from) q (led_here (grind (arith, nat_tests, e, size)))
+    go : (t : Bool) → nat_lt from n ≡ t → (a : ℕ) → Among (if t then from ∷ [] else []) a → LedByMarks nexts lead from a
+    go true e a (inl q) = subst (LedByMarks nexts lead from) q (led_here (grind (arith, nat_tests, e, size)))
     go true e a (inr m) = absurd m
     go false e a m = absurd m
 
@@ -353,7 +353,7 @@ take_front (x ∷ xs) ys (suc k) v h = ap (λ z. x ∷ z) (take_front xs ys k v 
 pub walking_turn : (nexts : List (List ℕ)) (lead : List ℕ) (from p : ℕ) (old new row : List ℕ) (done : ℕ) → slice_get old done ≡ Some p → row ≡ get_or nexts p [] → new ≡ led_all lead old row
     → Walking nexts lead from old done → Walking nexts lead from new (done + 1)
 walking_turn nexts lead from p old new row done at here turn h =
-    let g = grown_all (Led nexts lead from) lead old (get_or nexts p []) (λ b s l. led_on p b (mark_at lead b) (h.sound p (among_get old done p at)) s refl l) in
+    let g = grown_all (LedByMarks nexts lead from) lead old (get_or nexts p []) (λ b s l. led_on p b (mark_at lead b) (h.sound p (among_get old done p at)) s refl l) in
     let moved : (v : ℕ) → Among old v → Among (led_all lead old (get_or nexts p [])) v = λ v m. rw g.longer (Among_left old g.more v m) in
     let next : done + 1 ≡ suc done = omega arith in
     rw (turn, here) (record {
@@ -361,11 +361,11 @@ walking_turn nexts lead from p old new row done at here turn h =
       sound = λ a m. elim (Among_cases old g.more a (subst (λ (z : List ℕ). Among z a) g.longer m)) [ inl n ↦ h.sound a n | inr n ↦ g.each a n ];
       closed = λ a b m s l. elim (Among_cases (take done old) (p ∷ []) a (subst (λ (z : List ℕ). Among z a) (ap₂ take next g.longer ∙ take_front old g.more done p at) m)) [
         | inl n ↦ moved (mark_at lead b) (h.closed a b n s l)
-        | inr n ↦ elim n [ inl e ↦ all_led_in lead old (get_or nexts p []) b (subst (λ (z : ℕ). Step nexts z b) (sym e) s) l | inr none ↦ absurd none ]
+        | inr n ↦ elim n [ inl e ↦ all_led_in lead old (get_or nexts p []) b (subst (λ (z : ℕ). LeadsAtOnce nexts z b) (sym e) s) l | inr none ↦ absurd none ]
       ];
     })
 
-led_small : (nexts : List (List ℕ)) (lead : List ℕ) (from a : ℕ) → Led nexts lead from a → a < length lead
+led_small : (nexts : List (List ℕ)) (lead : List ℕ) (from a : ℕ) → LedByMarks nexts lead from a → a < length lead
 led_small nexts lead from _ (led_here l) = l
 led_small nexts lead from _ (led_on a b c h s e l) = l
 

@@ -3,30 +3,30 @@ use Rattle.std.specs.Prelude.{◌≡◌, ◌⊎◌, ◌<◌, ℕ, Bool, false, n
 use Rattle.rx_model.specs.Common.{Among, Node, Triple, same_node, edges, given, leads, says_pattern, treated}
 use Rattle.rx_graph.specs.Resources.{number_in, live_by}
 use Rattle.rx_graph.specs.Rows.{pushed}
-use Rattle.rx_graph.specs.Patterns.{places, edges_by, given_one, is_given, ArePatterns, AreReferenced}
-use Rattle.rx_graph.specs.Ways.{mark_at, Step, Joined, AreNexts, LeadsToMark, AreLed}
+use Rattle.rx_graph.specs.Patterns.{triple_places, edges_by, given_one, is_given, ArePatterns, AreReferenced}
+use Rattle.rx_graph.specs.Ways.{mark_at, LeadsAtOnce, Joined, AreNexts, LeadsToMark, AreLed}
 
 -- ---- which patterns copy which
 
 -- from leads to another, where both have a number
-abbrev pub link_to : List (List ℕ) → Option ℕ → Option ℕ → List (List ℕ)
-link_to rows None from = rows
-link_to rows (Some to) None = rows
-link_to rows (Some to) (Some from) = pushed rows from to
+abbrev pub with_link : List (List ℕ) → Option ℕ → Option ℕ → List (List ℕ)
+with_link rows None from = rows
+with_link rows (Some to) None = rows
+with_link rows (Some to) (Some from) = pushed rows from to
 
-abbrev pub number_of : List (Node ℕ) → Option (Node ℕ) → Option ℕ
-number_of nodes None = None
-number_of nodes (Some t) = number_in nodes t
+abbrev pub number_if_some : List (Node ℕ) → Option (Node ℕ) → Option ℕ
+number_if_some nodes None = None
+number_if_some nodes (Some t) = number_in nodes t
 
 -- with what a triple links
-abbrev pub linked : List (Node ℕ) → List (List ℕ) → Triple ℕ → List (List ℕ)
-linked nodes rows u = link_to rows (number_of nodes (live_by nodes u)) (number_in nodes u.subject)
+abbrev pub copy_linked : List (Node ℕ) → List (List ℕ) → Triple ℕ → List (List ℕ)
+copy_linked nodes rows u = with_link rows (number_if_some nodes (live_by nodes u)) (number_in nodes u.subject)
 
 -- the rows are those of the pairs, by the nodes' numbers
 pub record AreLinks (pairs : List (Node ℕ × Node ℕ)) (nodes : List (Node ℕ)) (rows : List (List ℕ)) : Type 0 where
   pub size : length rows ≡ length nodes
-  pub sound : (a b : ℕ) → Step rows a b → (s t : Node ℕ) × (number_in nodes s ≡ Some a) × (number_in nodes t ≡ Some b) × Among pairs (s, t)
-  pub complete : (s t : Node ℕ) (a b : ℕ) → Among pairs (s, t) → number_in nodes s ≡ Some a → number_in nodes t ≡ Some b → Step rows a b
+  pub sound : (a b : ℕ) → LeadsAtOnce rows a b → (s t : Node ℕ) × (number_in nodes s ≡ Some a) × (number_in nodes t ≡ Some b) × Among pairs (s, t)
+  pub complete : (s t : Node ℕ) (a b : ℕ) → Among pairs (s, t) → number_in nodes s ≡ Some a → number_in nodes t ≡ Some b → LeadsAtOnce rows a b
 
 -- ---- what is given
 
@@ -39,22 +39,22 @@ abbrev pub own_key : List (Node ℕ) → List ℕ → Triple ℕ → Option ℕ
 own_key nodes roots u = if gives_by nodes u then option_map (mark_at roots) (number_in nodes u.subject) else None
 
 -- the place at the end of the row of a number
-abbrev pub put_at : List (List ℕ) → Option ℕ → ℕ → List (List ℕ)
-put_at rows None place = rows
-put_at rows (Some a) place = pushed rows a place
+abbrev pub place_pushed : List (List ℕ) → Option ℕ → ℕ → List (List ℕ)
+place_pushed rows None place = rows
+place_pushed rows (Some a) place = pushed rows a place
 
 abbrev pub is_key : ℕ → Option ℕ → Bool
 is_key a None = false
 is_key a (Some b) = nat_eq a b
 
 -- the triple is given, and this is its subject's root
-abbrev pub owned : List (Node ℕ) → List ℕ → ℕ → Triple ℕ → Bool
-owned nodes roots a u = is_key a (own_key nodes roots u)
+abbrev pub is_owned : List (Node ℕ) → List ℕ → ℕ → Triple ℕ → Bool
+is_owned nodes roots a u = is_key a (own_key nodes roots u)
 
 -- each row has the places of what is given of those that the root joins
 pub record AreOwn (list : List (Triple ℕ)) (nodes : List (Node ℕ)) (roots : List ℕ) (own : List (List ℕ)) : Type 0 where
   pub size : length own ≡ length roots
-  pub each : (a : ℕ) → a < length own → get_or own a [] ≡ places (owned nodes roots a) 0 list
+  pub each : (a : ℕ) → a < length own → get_or own a [] ≡ triple_places (is_owned nodes roots a) 0 list
 
 -- whether a subject that copies t gets something by the triple
 abbrev pub gives : List (Triple ℕ) → Node ℕ → Triple ℕ → Bool
@@ -62,15 +62,15 @@ gives list t u = leads (same_node nat_eq) (edges nat_eq list) t u.subject && is_
 
 -- the places of what is given by copying t
 abbrev pub contents : List (Triple ℕ) → Node ℕ → List ℕ
-contents list t = places (gives list t) 0 list
+contents list t = triple_places (gives list t) 0 list
 
 -- what s gets by a triple, where it copies t
-abbrev pub given_by : List (Triple ℕ) → Node ℕ → Node ℕ → Triple ℕ → Option (Triple ℕ)
-given_by list s t u = given nat_eq list (edges nat_eq list) s t u
+abbrev pub copied_triple : List (Triple ℕ) → Node ℕ → Node ℕ → Triple ℕ → Option (Triple ℕ)
+copied_triple list s t u = given nat_eq list (edges nat_eq list) s t u
 
 -- all that s gets by copying t
 abbrev pub given_all : List (Triple ℕ) → Node ℕ → Node ℕ → List (Triple ℕ)
-given_all list s t = filter_map (given_by list s t) list
+given_all list s t = filter_map (copied_triple list s t) list
 
 -- what s gets by the triple at a place
 abbrev pub given_from : List (Triple ℕ) → Node ℕ → Option (Triple ℕ) → Option (Triple ℕ)
@@ -82,8 +82,8 @@ given_at list s i = given_from list s (slice_get list i)
 
 -- ---- what stands in place of a triple
 
-abbrev pub stands_for : List (Triple ℕ) → Triple ℕ → List (Triple ℕ)
-stands_for list u = treated nat_eq list (edges nat_eq list) u
+abbrev pub stand_ins : List (Triple ℕ) → Triple ℕ → List (Triple ℕ)
+stand_ins list u = treated nat_eq list (edges nat_eq list) u
 
 -- ---- the index
 

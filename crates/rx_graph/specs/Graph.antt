@@ -4,8 +4,8 @@ use Rattle.rx_terms.specs.declared.triples.Triple.{Triple as CodeTriple}
 use Rattle.rx_model.specs.Common.{with_all, Triple, same_triple, numbered, triples_seen}
 
 -- Behind the code's triples of one list stand these, each where it isn't there yet.
-abbrev pub Adds : List (Triple ℕ) → List CodeTriple → List CodeTriple → Type 0
-Adds more old new = triples_seen new ≡ with_all (same_triple nat_eq) (triples_seen old) more
+abbrev pub AddsMissing : List (Triple ℕ) → List CodeTriple → List CodeTriple → Type 0
+AddsMissing more old new = triples_seen new ≡ with_all (same_triple nat_eq) (triples_seen old) more
 
 -- the blank nodes are 0, 1, 2 in order of first occurrence
 abbrev pub IsNumbered : List (Triple ℕ) → Type 0

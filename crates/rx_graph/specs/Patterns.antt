@@ -8,9 +8,9 @@ abbrev pub copies : Triple ℕ → Bool
 copies t = bytes_eq t.predicate rdfa_copy
 
 -- the places, counted from one on, of the triples that pass the test
-abbrev pub places : (Triple ℕ → Bool) → ℕ → List (Triple ℕ) → List ℕ
-places test i [] = []
-places test i (t ∷ list) = if test t then i ∷ places test (suc i) list else places test (suc i) list
+abbrev pub triple_places : (Triple ℕ → Bool) → ℕ → List (Triple ℕ) → List ℕ
+triple_places test i [] = []
+triple_places test i (t ∷ list) = if test t then i ∷ triple_places test (suc i) list else triple_places test (suc i) list
 
 -- the nodes are the patterns of the list
 pub record ArePatterns (list : List (Triple ℕ)) (nodes : List (Node ℕ)) : Type 0 where

@@ -8,13 +8,13 @@ abbrev pub mark_at : List ℕ → ℕ → ℕ
 mark_at marks a = get_or marks a a
 
 -- a leads to b at once: b stands in its row
-abbrev pub Step : List (List ℕ) → ℕ → ℕ → Type 0
-Step rows a b = Among (get_or rows a []) b
+abbrev pub LeadsAtOnce : List (List ℕ) → ℕ → ℕ → Type 0
+LeadsAtOnce rows a b = Among (get_or rows a []) b
 
 -- a leads to another by none of them or by one after another
-pub data Goes (rows : List (List ℕ)) (a : ℕ) : ℕ → Type 0 where
-  stays : Goes rows a a
-  goes_on : (b c : ℕ) → Goes rows a b → Step rows b c → Goes rows a c
+pub data LeadsTo (rows : List (List ℕ)) (a : ℕ) : ℕ → Type 0 where
+  stays : LeadsTo rows a a
+  goes_on : (b c : ℕ) → LeadsTo rows a b → LeadsAtOnce rows b c → LeadsTo rows a c
 
 -- ---- turned round
 
@@ -25,7 +25,7 @@ turned_row a rows (b ∷ row) = turned_row a (pushed rows b a) row
 
 pub record IsTurned (rows turned : List (List ℕ)) : Type 0 where
   pub size : length turned ≡ length rows
-  pub each : (a b : ℕ) → Step turned a b → Step rows b a
+  pub each : (a b : ℕ) → LeadsAtOnce turned a b → LeadsAtOnce rows b a
 
 -- ---- marks that spread along the rows
 
@@ -40,19 +40,19 @@ spread_all root marks (a ∷ row) = spread_all root (spread_one root marks a) ro
 -- each mark below the size leads to what it marks
 pub record Marked (rows : List (List ℕ)) (marks : List ℕ) : Type 0 where
   pub size : length marks ≡ length rows
-  pub each : (a : ℕ) → mark_at marks a < length rows → Goes rows (mark_at marks a) a
+  pub each : (a : ℕ) → mark_at marks a < length rows → LeadsTo rows (mark_at marks a) a
 
 -- each leads to its mark, where that is below the size
 pub record LeadsToMark (rows : List (List ℕ)) (marks : List ℕ) : Type 0 where
   pub size : length marks ≡ length rows
-  pub each : (a : ℕ) → mark_at marks a < length rows → Goes rows a (mark_at marks a)
+  pub each : (a : ℕ) → mark_at marks a < length rows → LeadsTo rows a (mark_at marks a)
 
 -- each and its root lead to each other
 pub record Joined (rows : List (List ℕ)) (roots : List ℕ) : Type 0 where
   pub size : length roots ≡ length rows
   pub within : (a : ℕ) → a < length rows → mark_at roots a < length rows
-  pub down : (a : ℕ) → Goes rows (mark_at roots a) a
-  pub up : (a : ℕ) → Goes rows a (mark_at roots a)
+  pub down : (a : ℕ) → LeadsTo rows (mark_at roots a) a
+  pub up : (a : ℕ) → LeadsTo rows a (mark_at roots a)
 
 -- ---- what roots lead to
 
@@ -63,19 +63,19 @@ next_row roots a nexts (b ∷ row) = next_row roots a (if nat_eq a (mark_at root
 
 pub record AreNexts (rows : List (List ℕ)) (roots : List ℕ) (nexts : List (List ℕ)) : Type 0 where
   pub size : length nexts ≡ length rows
-  pub sound : (a b : ℕ) → Step nexts a b → Goes rows a b
-  pub complete : (a b : ℕ) → Step rows a b → (mark_at roots a ≡ mark_at roots b) ⊎ Step nexts (mark_at roots a) (mark_at roots b)
+  pub sound : (a b : ℕ) → LeadsAtOnce nexts a b → LeadsTo rows a b
+  pub complete : (a b : ℕ) → LeadsAtOnce rows a b → (mark_at roots a ≡ mark_at roots b) ⊎ LeadsAtOnce nexts (mark_at roots a) (mark_at roots b)
 
 -- ---- what stands for a root
 
 -- the only one so far and b: b where it is the first below the size, a where it is another
-abbrev pub merged : ℕ → ℕ → ℕ → ℕ → ℕ
-merged a size only b = if nat_lt b size && not (nat_eq b only) then (if nat_lt only size then a else b) else only
+abbrev pub merged_lead : ℕ → ℕ → ℕ → ℕ → ℕ
+merged_lead a size only b = if nat_lt b size && not (nat_eq b only) then (if nat_lt only size then a else b) else only
 
 -- the only one that stands for all of a row, a where there are several
 abbrev pub only_lead : List ℕ → ℕ → ℕ → List ℕ → ℕ
 only_lead lead a only [] = only
-only_lead lead a only (b ∷ row) = only_lead lead a (merged a (length lead) only (mark_at lead b)) row
+only_lead lead a only (b ∷ row) = only_lead lead a (merged_lead a (length lead) only (mark_at lead b)) row
 
 -- none of a row leads to anything but to this one
 abbrev pub all_led : List ℕ → ℕ → List ℕ → Bool
@@ -99,9 +99,9 @@ abbrev pub led_all : List ℕ → List ℕ → List ℕ → List ℕ
 led_all lead reached [] = reached
 led_all lead reached (b ∷ row) = led_all lead (led_one lead reached b) row
 
-pub data Led (nexts : List (List ℕ)) (lead : List ℕ) (from : ℕ) : ℕ → Type 0 where
-  led_here : from < length lead → Led nexts lead from from
-  led_on : (a b c : ℕ) → Led nexts lead from a → Step nexts a b → mark_at lead b ≡ c → c < length lead → Led nexts lead from c
+pub data LedByMarks (nexts : List (List ℕ)) (lead : List ℕ) (from : ℕ) : ℕ → Type 0 where
+  led_here : from < length lead → LedByMarks nexts lead from from
+  led_on : (a b c : ℕ) → LedByMarks nexts lead from a → LeadsAtOnce nexts a b → mark_at lead b ≡ c → c < length lead → LedByMarks nexts lead from c
 
 -- no number is equal to one after it
 abbrev pub EachOnce : List ℕ → Type 0
@@ -111,5 +111,5 @@ EachOnce (x ∷ numbers) = (contains nat_eq numbers x ≡ false) × EachOnce num
 pub record IsWalk (nexts : List (List ℕ)) (lead : List ℕ) (from : ℕ) (reached : List ℕ) : Type 0 where
   pub small : (a : ℕ) → Among reached a → a < length lead
   pub start : from < length lead → Among reached from
-  pub sound : (a : ℕ) → Among reached a → Led nexts lead from a
-  pub closed : (a b : ℕ) → Among reached a → Step nexts a b → mark_at lead b < length lead → Among reached (mark_at lead b)
+  pub sound : (a : ℕ) → Among reached a → LedByMarks nexts lead from a
+  pub closed : (a b : ℕ) → Among reached a → LeadsAtOnce nexts a b → mark_at lead b < length lead → Among reached (mark_at lead b)

@@ -4,7 +4,7 @@ ghost use Rattle.rx_model.specs.Common.{IsPermutation, IsNonDecreasing, triple_s
 ghost use Rattle.rx_graph.specs.Resources.{resource_seen, number_in};
 ghost use Rattle.rx_graph.specs.Patterns.{ArePatterns};
 ghost use Rattle.rx_graph.specs.Ways.{mark_at, EachOnce};
-ghost use Rattle.rx_graph.specs.Copying.{gives_by, own_key, put_at, AreOwn, IsIndex, IsContent, AreContents};
+ghost use Rattle.rx_graph.specs.Copying.{gives_by, own_key, place_pushed, AreOwn, IsIndex, IsContent, AreContents};
 
 use crate::joining::{Joining, join, nexts};
 use crate::leading::leading;
@@ -182,7 +182,7 @@ fn put_own<'a>(
     roots: &Marks,
     own: &mut Rows,
 ) -> Result<(), NoMemory>
-    ensures { OnOk result (own.new ≡ put_at own.old (own_key nodes.now roots.now (triple_seen triple.now)) place) }
+    ensures { OnOk result (own.new ≡ place_pushed own.old (own_key nodes.now roots.now (triple_seen triple.now)) place) }
 {
     if !gives(triple, nodes) {
         return Ok(());

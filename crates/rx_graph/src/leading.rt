@@ -1,6 +1,6 @@
 //! A root that gives nothing, and leads to one that gives all that it leads to, is left out: that one stands for it.
 ghost use Rattle.std.specs.Prelude.{◌≡◌, true, nat_eq, IfOk, OnOk, length, if◌then◌else◌, slice_set};
-ghost use Rattle.rx_graph.specs.Ways.{LeadsToMark, merged, only_lead, all_led, is_led, AreLed};
+ghost use Rattle.rx_graph.specs.Ways.{LeadsToMark, merged_lead, only_lead, all_led, is_led, AreLed};
 
 use crate::marks::Marks;
 use crate::rows::Rows;
@@ -62,7 +62,7 @@ fn only_lead(top: usize, row: &[usize], lead: &Marks) -> usize
 }
 
 fn merged(top: usize, size: usize, only: usize, next: usize) -> usize
-    ensures { result ≡ merged top size only next }
+    ensures { result ≡ merged_lead top size only next }
 {
     if next >= size || next == only {
         return only;

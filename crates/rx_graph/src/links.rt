@@ -2,7 +2,7 @@
 ghost use Rattle.std.specs.Prelude.{◌≡◌, IfOk, OnOk};
 ghost use Rattle.rx_model.specs.Seen.{triple_seen, triples_seen};
 ghost use Rattle.rx_graph.specs.Patterns.{edges_by};
-ghost use Rattle.rx_graph.specs.Copying.{linked, AreLinks};
+ghost use Rattle.rx_graph.specs.Copying.{copy_linked, AreLinks};
 
 use crate::resources::{Nodes, Resource};
 use crate::rows::Rows;
@@ -26,7 +26,7 @@ pub(crate) fn links<'a>(
 
 /// Adds what the triple links.
 fn link<'a>(triple: &'a Triple, nodes: &Nodes<'a>, links: &mut Rows) -> Result<(), NoMemory>
-    ensures { OnOk result (links.new ≡ linked nodes.now links.old (triple_seen triple.now)) }
+    ensures { OnOk result (links.new ≡ copy_linked nodes.now links.old (triple_seen triple.now)) }
 {
     let Some(copied) = nodes.live(triple) else {
         return Ok(());

@@ -1,10 +1,10 @@
 //! The patterns of a list of triples, and what they give.
 ghost use Rattle.std.specs.Prelude.{◌≡◌, true, filter_map, option_to_list, IfOk, OnOk, nat_eq};
 ghost use Rattle.rx_model.specs.Common.{is_pattern, node_seen, triple_seen, triples_seen};
-ghost use Rattle.rx_graph.specs.Graph.{Adds};
+ghost use Rattle.rx_graph.specs.Graph.{AddsMissing};
 ghost use Rattle.rx_graph.specs.Resources.{resource_seen};
 ghost use Rattle.rx_graph.specs.Patterns.{ArePatterns, AreReferenced, edges_by, given_one};
-ghost use Rattle.rx_graph.specs.Copying.{given_all, given_at, stands_for};
+ghost use Rattle.rx_graph.specs.Copying.{given_all, given_at, stand_ins};
 
 use crate::index::Index;
 use crate::resources::{Nodes, Resource};
@@ -74,7 +74,7 @@ impl<'a> Patterns<'a> {
         triple: &'a Triple,
         gathering: &mut TripleSet,
     ) -> Result<(), NoMemory>
-        ensures { OnOk result (Adds (stands_for (triples_seen self.now) (triple_seen triple.now)) gathering.old gathering.new) }
+        ensures { OnOk result (AddsMissing (stand_ins (triples_seen self.now) (triple_seen triple.now)) gathering.old gathering.new) }
     {
         if self.referenced.contains(Resource::of_node(&triple.subject)) {
             return Ok(());
@@ -94,7 +94,7 @@ impl<'a> Patterns<'a> {
         gathering: &mut TripleSet,
     ) -> Result<(), NoMemory>
         requires { is_pattern nat_eq (triples_seen self.now) (resource_seen pattern) ≡ true }
-        ensures { OnOk result (Adds (given_all (triples_seen self.now) (node_seen subject.now) (resource_seen pattern.entry)) gathering.old gathering.new) }
+        ensures { OnOk result (AddsMissing (given_all (triples_seen self.now) (node_seen subject.now) (resource_seen pattern.entry)) gathering.old gathering.new) }
     {
         let Some(from) = self.index.lead_of(pattern) else {
             return Ok(());
@@ -114,7 +114,7 @@ impl<'a> Patterns<'a> {
         places: &[usize],
         gathering: &mut TripleSet,
     ) -> Result<(), NoMemory>
-        ensures { OnOk result (Adds (filter_map (given_at (triples_seen self.now) (node_seen subject.now)) places.now) gathering.old gathering.new) }
+        ensures { OnOk result (AddsMissing (filter_map (given_at (triples_seen self.now) (node_seen subject.now)) places.now) gathering.old gathering.new) }
     {
         for place in places {
             self.give_at(subject, *place, gathering)?;
@@ -129,7 +129,7 @@ impl<'a> Patterns<'a> {
         place: usize,
         gathering: &mut TripleSet,
     ) -> Result<(), NoMemory>
-        ensures { OnOk result (Adds (option_to_list (given_at (triples_seen self.now) (node_seen subject.now) place)) gathering.old gathering.new) }
+        ensures { OnOk result (AddsMissing (option_to_list (given_at (triples_seen self.now) (node_seen subject.now) place)) gathering.old gathering.new) }
     {
         if place >= self.triples.len() {
             return Ok(());
@@ -144,7 +144,7 @@ impl<'a> Patterns<'a> {
         triple: &'a Triple,
         gathering: &mut TripleSet,
     ) -> Result<(), NoMemory>
-        ensures { OnOk result (Adds (option_to_list (given_one (triples_seen self.now) (node_seen subject.now) (triple_seen triple.now))) gathering.old gathering.new) }
+        ensures { OnOk result (AddsMissing (option_to_list (given_one (triples_seen self.now) (node_seen subject.now) (triple_seen triple.now))) gathering.old gathering.new) }
     {
         if says_pattern(triple) || self.index.nodes.live(triple).is_some() {
             return Ok(());

@@ -1,11 +1,10 @@
 //! RDFa's vocabulary for patterns.
-ghost use Rattle.std.specs.Prelude.{◌≡◌, true, bytes_eq, nat_eq};
-ghost use Rattle.rx_model.specs.Common.{list_all, is_ascii, rdfa_copy, rdfa_pattern, says_pattern, term_seen, triple_seen, same_term};
+ghost use Rattle.std.specs.Prelude.{◌≡◌, bytes_eq, nat_eq};
+ghost use Rattle.rx_model.specs.Common.{rdfa_copy, rdfa_pattern, says_pattern, term_seen, triple_seen, same_term};
 ghost use Rattle.rx_model.specs.Terms as model;
 
-use rx_terms::{Iri, Term, Triple};
-
-const RDF_TYPE: &str = "http://www.w3.org/1999/02/22-rdf-syntax-ns#type";
+use rx_model::{RDF_TYPE, is};
+use rx_terms::{Term, Triple};
 
 const RDFA_COPY: &str = "http://www.w3.org/ns/rdfa#copy";
 
@@ -33,12 +32,4 @@ pub(crate) fn copies(triple: &Triple) -> bool
     ensures { result ≡ bytes_eq triple.now.predicate rdfa_copy }
 {
     is(&triple.predicate, RDFA_COPY)
-}
-
-/// Whether the IRI is this one, of ASCII.
-fn is(iri: &Iri, name: &str) -> bool
-    requires { list_all is_ascii name.now ≡ true }
-    ensures { result ≡ bytes_eq iri.now name.now }
-{
-    iri.as_str() == name
 }

@@ -1,5 +1,5 @@
 -- Where the elements of one table stand for those of another, visits and JSON are alike.
-use Rattle.rx_items.proofs.Common.{⊤, not, ◌&&◌, ◌||◌, ◌==◌, nat_le, ◌≡◌, ℕ, zero, suc, Bool, true, false, nat_lt, cond, codes, List, [], ◌∷◌, ◌++◌, map, filter, flat_map, Option, Some, None, option_map, option_or, list_any, refl, sym, ap, ◌∙◌, Chars, map-append, length-map, Kind, Cycle, ItemsTooNested, ItemsTooMany, Data, object, member, array, no_members, Value, Written, said, Placed, is_item, names_of, is_any, Visit, Bounds, is_cycle, items_in, visits_from, visits_by, fault_of, first_fault, Outcome, Given, refused, string_of, item_of, named, json_of_item, json_by, list_of, outcome_by, needed}
+use Rattle.rx_items.proofs.Common.{⊤, not, ◌&&◌, ◌||◌, ◌==◌, nat_le, ◌≡◌, ℕ, zero, suc, Bool, true, false, nat_lt, cond, codes, List, [], ◌∷◌, ◌++◌, map, filter, flat_map, Option, Some, None, option_map, option_or, list_any, refl, sym, ap, ◌∙◌, Chars, map-append, length-map, Kind, Cycle, ItemsTooNested, ItemsTooMany, Data, object, member, array, no_members, Value, Written, said, Placed, is_item, names_of, is_any, Visit, Bounds, is_cycle, items_in, visits_from, visits_by, fault_of, first_fault, Outcome, Given, refused, string_of, item_of, property_pairs, json_of_item, json_by, array_items, outcome_by, needed}
 
 abbrev pub Each : {X : Type 0} → (X → Type 0) → List X → Type 0
 Each P [] = ⊤
@@ -46,7 +46,7 @@ module _ (place past : Placed → ℕ) (scope : Placed → Option ℕ) where
   module _ (Good : Placed → Type 0) (from to : Placed → List Placed) (m : Moves Good from to) where
     module _ (base : Chars) where
       valued : (Placed → List Placed) → ℕ → Placed → List (Chars × Data)
-      valued properties left e = named e (chosen (is_item e) (json_of_item properties base left e) (string_of (said base e.facts.value)))
+      valued properties left e = property_pairs e (chosen (is_item e) (json_of_item properties base left e) (string_of (said base e.facts.value)))
 
       over : (left : ℕ) (xs : List Placed) → Each Good xs
           → ((e : Placed) → Item Good e → json_of_item to base left (moved e) ≡ json_of_item from base left e)
@@ -68,7 +68,7 @@ module _ (place past : Placed → ℕ) (scope : Placed → Option ℕ) where
       items_alike left (x ∷ items) g = λ i. item_alike left x g.0 i ∷ items_alike left items g.1 i
 
       pub json_alike : (nested : ℕ) (items : List Placed) → Each (Item Good) items → json_by to base nested (map moved items) ≡ json_by from base nested items
-      json_alike nested items g = ap (λ values. object (member (codes "items") (array (list_of values)) no_members)) (items_alike nested items g)
+      json_alike nested items g = ap (λ values. object (member (codes "items") (array (array_items values)) no_members)) (items_alike nested items g)
 
     any_alike : (last : Placed) (above : Visit) → Good last → Each Good above
         → list_any (λ (e : Placed). e.place == place last) (map moved above) ≡ list_any (λ (e : Placed). e.place == last.place) above

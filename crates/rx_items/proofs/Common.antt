@@ -1,32 +1,32 @@
 -- The names of items that most proofs here cite, passed on from one place. Declares nothing.
-pub use Rattle.rx_items.specs.Collecting.{BaseIs, BaseMoves, Collects, Setting, told, told_all, way_of}
-pub use Rattle.rx_items.specs.Expanding.{At, Enters, FaultIs, Finds, HasFault, NoFault, Step, again, count_of, data_of, kind_of, path_of, steps_in, steps_of, visits_in, visits_of, with_name}
-pub use Rattle.rx_items.specs.Growing.{Growing, IsIdle, nothing_kept, with_said}
-pub use Rattle.rx_items.specs.Held.{AllFit, AllStand, AreTokens, AtPlace, HoldsRows, IsElement, NamesAt, Numbered, OfRows, Reaches, ShowsElement, ShowsTokens, is_there, names_beside, others_beside, own_beside, places, types_beside}
-pub use Rattle.rx_items.specs.Ids.{Looks, LooksFor, LooksWhere, has_references, look_in, place_of}
-pub use Rattle.rx_items.specs.Members.{Adds, AddsItem, AllBelow, AreBelow, AreMembers, FirstBelow, IsNamed, Rises, RunOf, Sorted, key_at, key_of, next_place, scope_number, scope_of}
-pub use Rattle.rx_items.specs.Named.{ending, events_behind, grouped_at, key_seen, keys_at, keys_in, keys_seen, name_seen, opening, value_at, value_behind, value_if}
+pub use Rattle.rx_items.specs.Collecting.{BaseIs, BaseMoves, Collects, MicrodataSetting, after_sign, microdata_way, told_all}
+pub use Rattle.rx_items.specs.Expanding.{BeginsVisit, FaultIs, GivesUnlessFault, HasFault, HeldOnPath, NamedProperty, NoFault, again, data_of, path_places, steps_in, steps_of, token_count, visit_fault, visits_in, visits_of, with_name}
+pub use Rattle.rx_items.specs.Growing.{GathersNoText, Growing, nothing_kept, with_said}
+pub use Rattle.rx_items.specs.Held.{AllStand, AreTokens, AtPlace, FirstRowsFit, GivesProperties, HoldsRows, IsElement, NamesAt, OfRows, RowsAreNumbered, ShowsElement, ShowsTokens, is_there, names_beside, others_beside, own_beside, row_places, types_beside}
+pub use Rattle.rx_items.specs.Ids.{Looks, LooksFor, LooksWhere, has_itemref, id_place, look_in}
+pub use Rattle.rx_items.specs.Members.{AddsItem, AddsMembers, AllBelow, AreBelow, AreMembers, FirstBelow, IsNamed, Rises, RunOf, Sorted, member_key, next_place, row_key, scope_number, scope_of}
+pub use Rattle.rx_items.specs.Named.{ending_events, events_behind, grouped_at, key_seen, keys_at, keys_seen, name_keys, name_seen, opening, value_at, value_behind, value_if}
 pub use Rattle.rx_items.specs.Pages.{IsTextOf, JsonGives, TextGives, VisitsGive, page_data, top_data, top_visits}
-pub use Rattle.rx_items.specs.Properties.{are_listed, gathered, in_runs, is_next, is_other, part, rise_behind}
-pub use Rattle.rx_items.specs.Rows.{RowsSuffice, behind, is_valued, matters, needed, outcome_in, properties_in, row_count, rows_from, rows_of, with_row}
-pub use Rattle.rx_items.specs.Showing.{ShowsPart, ShowsRow, ShowsRows, ShowsValue, ShowsWord, TablesShow, after, nothing_read, tag_in}
-pub use Rattle.rx_items.specs.Spans.{IsRun, mark_of}
-pub use Rattle.rx_items.specs.Starts.{FromChildren, FromStart, Reached, RunsReach, reach_end}
+pub use Rattle.rx_items.specs.Properties.{are_listed, follows_place, gathered, in_runs, is_other, members_in, rise_behind}
+pub use Rattle.rx_items.specs.Rows.{RowsSuffice, behind_row, is_valued, matters, needed, outcome_in, properties_in, row_count, rows_from, rows_of, with_row}
+pub use Rattle.rx_items.specs.Showing.{ShowsPart, ShowsRow, ShowsRows, ShowsValue, ShowsWord, TablesShow, after, nothing_grown, tag_in}
+pub use Rattle.rx_items.specs.Spans.{IsRun, byte_count}
+pub use Rattle.rx_items.specs.Starts.{FromChildren, FromStart, ReachesRow, RunsReach, reach_end}
 pub use Rattle.rx_items.specs.Words.{after_id, after_item_id, after_names, after_types, id_in, is_marked, item_id_in, names_in, references_in, span_if, text_of_words, types_in, word_span, word_text, words_of}
 pub use Rattle.rx_json.proofs.GrowLemmas.{Left, both, object_made, one, told_as, turn}
 pub use Rattle.rx_json.specs.Events.{Grows, data_events, each_events, items_events, members_events}
 pub use Rattle.rx_microdata.proofs.Lists.{and_of, and_parts, bool_same, contradiction, first, first_or_later, found_first, kept, later, none, or_left, or_right, three}
 pub use Rattle.rx_microdata.specs.Elements.{Placed, count, elements_of, is_absent, is_below, is_item, is_top_level, names_of, placed_from, scope_in}
-pub use Rattle.rx_microdata.specs.Facts.{Facts, Value, Written, all_text, attribute, begins_item, distinct_tokens, embedding_names, facts_of, linking_names, own_text, said, source_of, valued_names, without_repeats_of}
-pub use Rattle.rx_microdata.specs.Json.{Given, Outcome, Refused, grouped, item_of, json_by, json_of_item, list_of, named, onto, outcome, outcome_by, outcome_of, refused, string_of, with_id, with_types, with_value}
-pub use Rattle.rx_microdata.specs.Laws.{is_before, is_property_by_scope, is_scope, reaches_by_scope}
+pub use Rattle.rx_microdata.specs.Facts.{MicrodataFacts, Value, Written, attribute_value, begins_item, distinct_tokens, embedding_names, facts_of, linking_names, own_text, said, source_of, valued_names, without_repeats_of}
+pub use Rattle.rx_microdata.specs.Json.{Given, Outcome, Refused, array_items, grouped_members, item_of, json_by, json_of_item, onto, outcome, outcome_by, outcome_of, property_pairs, refused, with_id, with_member, with_types}
+pub use Rattle.rx_microdata.specs.Laws.{is_after_scope, is_property_by_scope, is_scope, reaches_by_scope}
 pub use Rattle.rx_microdata.specs.Properties.{first_with_id, has_id, is_any, is_same_id, properties}
 pub use Rattle.rx_microdata.specs.Visits.{Bounds, Visit, fault_of, first_fault, is_cycle, items_in, standard_bounds, visits_by, visits_from}
 pub use Rattle.rx_model.proofs.Common.{Graph, IsPermutation, get_or_default, is_eq, triples_seen}
 pub use Rattle.rx_nest.specs.Faults.{MeaningAt, Refuses, for_form, for_meaning}
 pub use Rattle.rx_nest.specs.Signs.{Sign, begun, finished, nothing_seen, sees, signs_of}
 pub use Rattle.rx_nest.specs.Ways.{IsRefusal, Way, none_refuses}
-pub use Rattle.rx_pages.proofs.Common.{Fault, FaultAt, Faulty, Item, Kind, Limits, Page, Rows, StartTag, Stop, Syntax, Tag, Tree, Unended, and_left, codes, element, end, end_rows, first_row, is_among, leb-false, length-append, no_page, one_tree, option_map, same, slice_get, start_of, start_rows, text}
+pub use Rattle.rx_pages.proofs.Common.{Fault, FaultAt, Faulty, Item, Kind, Limits, Page, Rows, StartTag, Stop, Syntax, Tag, Tree, Unended, and_left, codes, element, end, end_rows, first_row, is_among, leb-false, length-append, no_page, one_tree, option_map, same, slice_get, start_rows, start_tag_of, text}
 pub use Rattle.rx_rdfa.proofs.Common.{All-contains, Context, Cycle, ItemsTooMany, ItemsTooNested, Triple, Vec, eqb-true, facts, not, read_tag, set-append_seam, set_of, tags_of, value_of, written, written_denotes, ◌&&◌, ◌==◌}
 pub use Rattle.rx_reader.proofs.Common.{Attribute, decided, known_too_long, not_utf8, nul, page_too_long, tag_too_long, unended}
 pub use Rattle.rx_refs.specs.Resolve.{resolved}
@@ -42,4 +42,6 @@ pub use Rattle.std.specs.Cmp.Lexicographic.{nat_list_eq_equiv}
 pub use Rattle.std.specs.List.Sorted.{IsStableBy, ties}
 pub use Rattle.std.specs.Prelude.{IsErrAnd, filter_map, flat_map, option_to_list, slice_set}
 pub use Rattle.std.specs.Str.{bytes_eq}
+pub use Rattle.rx_json.specs.Plain.{string_of}
+pub use Rattle.rx_rdfa.specs.Tree.{element_text}
 pub use mathlib.Core.Logic.{◌⊎◌}

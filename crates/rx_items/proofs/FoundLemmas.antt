@@ -1,5 +1,5 @@
 -- What the visits of a page come to, step by step.
-use Rattle.rx_items.proofs.Common.{◌≡◌, ◌∙◌, ◌+◌, ℕ, suc, Bool, true, false, cond, List, [], ◌∷◌, ◌++◌, map, filter, length, Some, None, refl, sym, ap, subst, arith, nat_lt, ◌==◌, ◌||◌, nat_le, flat_map, list_any, option_or, Chars, length-append, ◌<◌, ◌≤◌, take, drop, get_or, take_all, Fault, Stop, HasFault, Cycle, ItemsTooNested, ItemsTooMany, Placed, is_item, names_of, Visit, visits_from, standard_bounds, fault_of, first_fault, items_in, properties_in, path_of, kind_of, NoFault, FaultIs, Step, with_name, steps_of, steps_in, visits_of, visits_in, flat_map-append}
+use Rattle.rx_items.proofs.Common.{◌≡◌, ◌∙◌, ◌+◌, ℕ, suc, Bool, true, false, cond, List, [], ◌∷◌, ◌++◌, map, filter, length, Some, None, refl, sym, ap, subst, arith, nat_lt, ◌==◌, ◌||◌, nat_le, flat_map, list_any, option_or, Chars, length-append, ◌<◌, ◌≤◌, take, drop, get_or, take_all, Fault, Stop, HasFault, Cycle, ItemsTooNested, ItemsTooMany, Placed, is_item, names_of, Visit, visits_from, standard_bounds, fault_of, first_fault, items_in, properties_in, path_places, visit_fault, NoFault, FaultIs, NamedProperty, with_name, steps_of, steps_in, visits_of, visits_in, flat_map-append}
 use Rattle.rx_grammar.specs.declared.stops.Stop.TheVariants as stop
 use Rattle.rx_items.proofs.TakeLemmas.{flat_cut, flat_more}
 use Rattle.rx_microdata.proofs.FirstFaults.{in_row}
@@ -53,23 +53,23 @@ module _ (f : Placed → List Visit) (xs : List Placed) (i : ℕ) where
 
 -- ---- the path
 
-any_path : (place : ℕ) (above : Visit) → list_any (λ (x : ℕ). x == place) (path_of above) ≡ list_any (λ (e : Placed). e.place == place) above
+any_path : (place : ℕ) (above : Visit) → list_any (λ (x : ℕ). x == place) (path_places above) ≡ list_any (λ (e : Placed). e.place == place) above
 any_path place [] = refl
 any_path place (e ∷ above) =
-    list_any-append (λ (x : ℕ). x == place) (path_of above) (e.place ∷ []) ∙ (ap (λ b. b || (e.place == place || false)) (any_path place above) ∙ swap (list_any (λ (x : Placed). x.place == place) above) (e.place == place))
+    list_any-append (λ (x : ℕ). x == place) (path_places above) (e.place ∷ []) ∙ (ap (λ b. b || (e.place == place || false)) (any_path place above) ∙ swap (list_any (λ (x : Placed). x.place == place) above) (e.place == place))
   where
     swap : (a b : Bool) → (a || (b || false)) ≡ (b || a)
     swap true true = refl
     swap _ _ = refl
 
-pub path_size : (above : Visit) → length (path_of above) ≡ length above
+pub path_size : (above : Visit) → length (path_places above) ≡ length above
 path_size [] = refl
-path_size (e ∷ above) = let s = length-append (path_of above) (e.place ∷ []) in let i = path_size above in omega (arith, s, i)
+path_size (e ∷ above) = let s = length-append (path_places above) (e.place ∷ []) in let i = path_size above in omega (arith, s, i)
 
 below_next : (n : ℕ) → nat_lt 40 (suc n) ≡ nat_le 40 n
 below_next n = grind arith
 
-pub fault_is : (before : ℕ) (above : Visit) (root : Placed) → fault_of standard_bounds before (root ∷ above) ≡ kind_of (path_of above) before root.place
+pub fault_is : (before : ℕ) (above : Visit) (root : Placed) → fault_of standard_bounds before (root ∷ above) ≡ visit_fault (path_places above) before root.place
 fault_is before above root =
     λ i. cond ((sym (any_path root.place above)) i) (Some Cycle) (cond ((below_next (length above) ∙ ap (nat_le 40) (sym (path_size above))) i) (Some ItemsTooNested) (cond (nat_le 100000 before) (Some ItemsTooMany) None))
 
@@ -79,7 +79,7 @@ module _ (rows : List Placed) (base : Chars) (above : Visit) (left : ℕ) where
   -- the steps of some elements are those of each
   pub each_steps : (es : List Placed) → visits_in rows base above left (steps_in es) ≡ flat_map (λ (e : Placed). visits_in rows base above left (steps_of e)) es
   each_steps [] = refl
-  each_steps (e ∷ es) = flat_map-append (λ (s : Step). visits_of rows base above left s.element) (steps_of e) (steps_in es) ∙ ap (λ (vs : List Visit). visits_in rows base above left (steps_of e) ++ vs) (each_steps es)
+  each_steps (e ∷ es) = flat_map-append (λ (s : NamedProperty). visits_of rows base above left s.element) (steps_of e) (steps_in es) ∙ ap (λ (vs : List Visit). visits_in rows base above left (steps_of e) ++ vs) (each_steps es)
 
   -- ---- what the definitions go by is what the steps go by
 
@@ -100,7 +100,7 @@ module _ (rows : List Placed) (base : Chars) (above : Visit) (left : ℕ) where
 
   pub steps_visits : (es : List Placed) → visits_in rows base above left (steps_in es) ≡ flat_map (visits_from (properties_in rows) (suc left) above) (items_in es)
   steps_visits [] = refl
-  steps_visits (e ∷ es) = flat_map-append (λ (s : Step). visits_of rows base above left s.element) (steps_of e) (steps_in es) ∙ by (is_item e) refl (steps_visits es)
+  steps_visits (e ∷ es) = flat_map-append (λ (s : NamedProperty). visits_of rows base above left s.element) (steps_of e) (steps_in es) ∙ by (is_item e) refl (steps_visits es)
     where
       by : (b : Bool) → is_item e ≡ b → visits_in rows base above left (steps_in es) ≡ flat_map (visits_from (properties_in rows) (suc left) above) (items_in es)
           → visits_in rows base above left (steps_of e) ++ visits_in rows base above left (steps_in es)

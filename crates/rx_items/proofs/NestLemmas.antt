@@ -1,5 +1,5 @@
 -- How the rows of a tree lie in each other.
-use Rattle.rx_items.proofs.Common.{◌≡◌, ◌∙◌, ℕ, suc, ◌+◌, ◌<◌, ◌≤◌, Bool, true, false, cond, List, [], ◌∷◌, ◌++◌, length, Contains, Contains-append_left, Contains-append_right, Option, Some, None, refl, sym, ap, subst, or_parts, ◌⊎◌, inl, inr, arith, StartTag, Tree, end, element, text, begins_item, facts_of, Placed, is_item, scope_in, is_before, first, later, matters, behind, row_count, rows_from, rows_of, with_row, needed, Numbered, length-append}
+use Rattle.rx_items.proofs.Common.{◌≡◌, ◌∙◌, ℕ, suc, ◌+◌, ◌<◌, ◌≤◌, Bool, true, false, cond, List, [], ◌∷◌, ◌++◌, length, Contains, Contains-append_left, Contains-append_right, Option, Some, None, refl, sym, ap, subst, or_parts, ◌⊎◌, inl, inr, arith, StartTag, Tree, end, element, text, begins_item, facts_of, Placed, is_item, scope_in, is_after_scope, first, later, matters, behind_row, row_count, rows_from, rows_of, with_row, needed, RowsAreNumbered, length-append}
 use borrow.Author.Tests.{ltb-true, lt-ltb}
 use Rattle.rx_items.proofs.Alike.{Each, each_append}
 use Rattle.rx_terms.proofs.Bools.{by_test}
@@ -37,7 +37,7 @@ pub record Fits (scope : Option ℕ) (place size : ℕ) (rows : List Placed) (e 
   pub ends : e.past ≤ place + size
   pub has_room : e.place < e.past
   pub around : HasAround scope rows place e
-  pub before : is_before e.scope e.place ≡ true
+  pub before : is_after_scope e.scope e.place ≡ true
 
 -- what is below a row has its own scope, or one that lies below
 pub record Nests (s e : Placed) : Type 0 where
@@ -69,24 +69,24 @@ wider inner scope from place size all some rows e l h around f =
 pub not_item : (tag : StartTag) (inner : Tree) → matters (facts_of tag inner) ≡ false → begins_item tag ≡ false
 not_item tag inner none = (or_parts (begins_item tag) _ none).0
 
-before_more : (scope : Option ℕ) (place later : ℕ) → place ≤ later → is_before scope place ≡ true → is_before scope later ≡ true
+before_more : (scope : Option ℕ) (place later : ℕ) → place ≤ later → is_after_scope scope place ≡ true → is_after_scope scope later ≡ true
 before_more None place later le h = refl
 before_more (Some k) place later le h = let lt = ltb-true k place h in lt-ltb k later (omega (arith, lt, le))
 
-scope_before : (tag : StartTag) (place : ℕ) (scope : Option ℕ) → is_before scope place ≡ true → is_before (scope_in tag place scope) (suc place) ≡ true
+scope_before : (tag : StartTag) (place : ℕ) (scope : Option ℕ) → is_after_scope scope place ≡ true → is_after_scope (scope_in tag place scope) (suc place) ≡ true
 scope_before tag place scope h = by_test (begins_item tag) (λ t. rw t (lt-ltb place (suc place) (omega arith))) (λ t. rw t (before_more scope place (suc place) (omega arith) h))
 
 abbrev row_at : StartTag → Tree → Option ℕ → ℕ → ℕ → Placed
 row_at tag inner scope place past = record { place = place; past = past; scope = scope; facts = needed (facts_of tag inner) }
 
-numbered_append : (place : ℕ) (a b : List Placed) → Numbered place a → Numbered (place + length a) b → Numbered place (a ++ b)
-numbered_append place [] b p q = let plain : place + 0 ≡ place = omega arith in subst (λ n. Numbered n b) plain q
-numbered_append place (x ∷ a) b p q = let next : place + suc (length a) ≡ suc place + length a = omega arith in (p.0, numbered_append (suc place) a b p.1 (subst (λ n. Numbered n b) next q))
+numbered_append : (place : ℕ) (a b : List Placed) → RowsAreNumbered place a → RowsAreNumbered (place + length a) b → RowsAreNumbered place (a ++ b)
+numbered_append place [] b p q = let plain : place + 0 ≡ place = omega arith in subst (λ n. RowsAreNumbered n b) plain q
+numbered_append place (x ∷ a) b p q = let next : place + suc (length a) ≡ suc place + length a = omega arith in (p.0, numbered_append (suc place) a b p.1 (subst (λ n. RowsAreNumbered n b) next q))
 
 -- rows that lie among these places, in each other, each at its place
 pub record Laid (size : ℕ) (scope : Option ℕ) (place : ℕ) (rows : List Placed) : Type 0 where
   pub long : length rows ≡ size
-  pub numbered : Numbered place rows
+  pub numbered : RowsAreNumbered place rows
   pub fits : Each (Fits scope place size rows) rows
   pub pairs : Pairs rows rows
 
@@ -94,7 +94,7 @@ pub record Laid (size : ℕ) (scope : Option ℕ) (place : ℕ) (rows : List Pla
 laid_both : (scope : Option ℕ) (place n m : ℕ) (a b : List Placed) → Laid n scope place a → Laid m scope (place + n) b → Laid (n + m) scope place (a ++ b)
 laid_both scope place n m a b p q = record {
   long = omega (arith, length-append a b, p.long, q.long);
-  numbered = numbered_append place a b p.numbered (subst (λ k. Numbered (place + k) b) (sym p.long) q.numbered);
+  numbered = numbered_append place a b p.numbered (subst (λ k. RowsAreNumbered (place + k) b) (sym p.long) q.numbered);
   fits = each_append (Fits scope place (n + m) (a ++ b)) a b
       (each_by (Fits scope place n a) (Fits scope place (n + m) (a ++ b)) a
       (λ e f. wider scope scope place place n (n + m) a (a ++ b) e (omega arith) (omega arith) (among_more scope a (a ++ b) place place e (omega arith) (λ z c. Contains-append_left a b z c) f.around) f) p.fits)
@@ -129,7 +129,7 @@ module _ (tag : StartTag) (inner : Tree) (scope : Option ℕ) (place n : ℕ) (a
       by false item (inr k) = record { in_item = λ low high i. absurd (true≢false (sym i ∙ item)); in_other = λ low high i. inr ((k.0).place, (k.1).scope_is, omega (arith, (k.1).from)) }
 
   -- a row and those within it
-  laid_row : is_before scope place ≡ true → Laid n (scope_in tag place scope) (suc place) a → Laid (suc n) scope place (row ∷ a)
+  laid_row : is_after_scope scope place ≡ true → Laid n (scope_in tag place scope) (suc place) a → Laid (suc n) scope place (row ∷ a)
   laid_row h p = record {
     long = ap suc p.long;
     numbered = (refl, p.numbered);
@@ -146,23 +146,23 @@ module _ (tag : StartTag) (inner : Tree) (scope : Option ℕ) (place n : ℕ) (a
   }
 
 -- an element and what follows it, whether it is a row or not
-laid_element : (tag : StartTag) (inner : Tree) (scope : Option ℕ) (place n m : ℕ) (b : Bool) (xs ys : List Placed) → matters (facts_of tag inner) ≡ b → is_before scope place ≡ true
-    → (is_before (scope_in tag place scope) (behind b place) ≡ true → Laid n (scope_in tag place scope) (behind b place) xs) → (is_before scope (behind b place + n) ≡ true → Laid m scope (behind b place + n) ys)
-    → Laid (behind b n + m) scope place (with_row b (row_at tag inner scope place (behind b place + n)) (xs ++ ys))
+laid_element : (tag : StartTag) (inner : Tree) (scope : Option ℕ) (place n m : ℕ) (b : Bool) (xs ys : List Placed) → matters (facts_of tag inner) ≡ b → is_after_scope scope place ≡ true
+    → (is_after_scope (scope_in tag place scope) (behind_row b place) ≡ true → Laid n (scope_in tag place scope) (behind_row b place) xs) → (is_after_scope scope (behind_row b place + n) ≡ true → Laid m scope (behind_row b place + n) ys)
+    → Laid (behind_row b n + m) scope place (with_row b (row_at tag inner scope place (behind_row b place + n)) (xs ++ ys))
 laid_element tag inner scope place n m true xs ys e h p q =
     let behind_it : suc place + n ≡ place + suc n = omega arith in
     laid_both scope place (suc n) m (row_at tag inner scope place (suc place + n) ∷ xs) ys (laid_row tag inner scope place n xs h (p (scope_before tag place scope h)))
     (subst (λ k. Laid m scope k ys) behind_it (q (before_more scope place (suc place + n) (omega arith) h)))
 laid_element tag inner scope place n m false xs ys e h p q =
     let plain : scope_in tag place scope ≡ scope = ap (λ b. cond b (Some place) scope) (not_item tag inner e) in
-    laid_both scope place n m xs ys (subst (λ s. Laid n s place xs) plain (p (ap (λ s. is_before s place) plain ∙ h))) (q (before_more scope place (place + n) (omega arith) h))
+    laid_both scope place n m xs ys (subst (λ s. Laid n s place xs) plain (p (ap (λ s. is_after_scope s place) plain ∙ h))) (q (before_more scope place (place + n) (omega arith) h))
 
-pub laid : (tree : Tree) (scope : Option ℕ) (place : ℕ) → is_before scope place ≡ true → Laid (row_count tree) scope place (rows_from scope place tree)
+pub laid : (tree : Tree) (scope : Option ℕ) (place : ℕ) → is_after_scope scope place ≡ true → Laid (row_count tree) scope place (rows_from scope place tree)
 laid end scope place h = record { long = refl; numbered = tt; fits = tt; pairs = tt }
 laid (text chars more) scope place h = laid more scope place h
 laid (element tag inner more) scope place h =
-    laid_element tag inner scope place (row_count inner) (row_count more) (matters (facts_of tag inner)) _ _ refl h (λ g. laid inner (scope_in tag place scope) (behind (matters (facts_of tag inner)) place) g)
-    (λ g. laid more scope (behind (matters (facts_of tag inner)) place + row_count inner) g)
+    laid_element tag inner scope place (row_count inner) (row_count more) (matters (facts_of tag inner)) _ _ refl h (λ g. laid inner (scope_in tag place scope) (behind_row (matters (facts_of tag inner)) place) g)
+    (λ g. laid more scope (behind_row (matters (facts_of tag inner)) place + row_count inner) g)
 
-pub numbered : (tree : Tree) → Numbered 0 (rows_of tree)
+pub numbered : (tree : Tree) → RowsAreNumbered 0 (rows_of tree)
 numbered tree = (laid tree None 0 refl).numbered

@@ -1,5 +1,5 @@
 -- The top-level items of a page, one after another.
-use Rattle.rx_items.proofs.Common.{◌≡◌, ◌∙◌, ◌<◌, ◌≤◌, ℕ, zero, suc, Bool, true, false, List, [], ◌∷◌, ◌++◌, map, filter, length, take, get_or, Option, Some, None, refl, sym, ap, subst, arith, Chars, flat_map, slice_get, Result, Err, Data, Fault, Kind, Stop, Placed, is_item, is_top_level, is_absent, Visit, visits_from, visits_by, first_fault, standard_bounds, Outcome, Given, Refused, json_of_item, json_by, refused, and_parts, properties_in, outcome_in, HoldsRows, At, NoFault, FaultIs, HasFault, Finds, top_visits, top_data, IsTextOf, JsonGives, TextGives}
+use Rattle.rx_items.proofs.Common.{◌≡◌, ◌∙◌, ◌<◌, ◌≤◌, ℕ, zero, suc, Bool, true, false, List, [], ◌∷◌, ◌++◌, map, filter, length, take, get_or, Option, Some, None, refl, sym, ap, subst, arith, Chars, flat_map, slice_get, Result, Err, Data, Fault, Kind, Stop, Placed, is_item, is_top_level, is_absent, Visit, visits_from, visits_by, first_fault, standard_bounds, Outcome, Given, Refused, json_of_item, json_by, refused, and_parts, properties_in, outcome_in, HoldsRows, HeldOnPath, NoFault, FaultIs, HasFault, GivesUnlessFault, top_visits, top_data, IsTextOf, JsonGives, TextGives}
 use Rattle.serde_json.specs.Written.{compact_text}
 use Rattle.rx_terms.proofs.Bools.{by_test}
 use Rattle.rx_grammar.specs.declared.stops.Stop.TheVariants as stop
@@ -8,7 +8,7 @@ use Rattle.std.proofs.lemmas.List.Concat.{flat_map_single}
 use Rattle.rx_items.proofs.FoundLemmas.{one_fault, all_none, none_at_all}
 use Rattle.rx_items.proofs.ShowLemmas.{shows_length}
 
-pub tops_at : {kept : Kept} {rows : List Placed} {base : Chars} (path : List ℕ) → HoldsRows kept rows base → path ≡ [] → At kept rows base path [] 40
+pub tops_at : {kept : Kept} {rows : List Placed} {base : Chars} (path : List ℕ) → HoldsRows kept rows base → path ≡ [] → HeldOnPath kept rows base path [] 40
 tops_at path h e = record { holds = h; path_is = e; deep = omega arith }
 
 pub item_of_top : (e : Placed) → is_top_level e ≡ true → is_item e ≡ true
@@ -57,9 +57,9 @@ module _ (rows : List Placed) (base : Chars) where
   pub top_plain : (e : Placed) (visits : ℕ) → is_top_level e ≡ false → NoFault visits (top_visits rows base e) visits
   top_plain e visits plain = subst (λ b. NoFault visits (visits_when e b) visits) (sym plain) (none_at_all visits)
 
-  pub top_passed : (e : Placed) (before after : ℕ) (r : Result (Unit {0}) Stop) → is_top_level e ≡ true → Finds before (visits_from (properties_in rows) 41 [] e) after (λ done. Unit {0}) r
-      → Finds before (top_visits rows base e) after (λ done. Unit {0}) r
-  top_passed e before after r top f = subst (λ b. Finds {X = Unit {0}} before (visits_when e b) after (λ done. Unit {0}) r) (sym top) f
+  pub top_passed : (e : Placed) (before after : ℕ) (r : Result (Unit {0}) Stop) → is_top_level e ≡ true → GivesUnlessFault before (visits_from (properties_in rows) 41 [] e) after (λ done. Unit {0}) r
+      → GivesUnlessFault before (top_visits rows base e) after (λ done. Unit {0}) r
+  top_passed e before after r top f = subst (λ b. GivesUnlessFault {X = Unit {0}} before (visits_when e b) after (λ done. Unit {0}) r) (sym top) f
 
   abbrev picked : Option (Kind × Visit) → Data → Outcome
   picked o value = elim o as (λ found. Outcome) [ None ↦ Given value | Some found ↦ refused found.0 found.1 ]

@@ -1,5 +1,5 @@
 -- The visits of a page without its JSON, step by step.
-use Rattle.rx_items.proofs.Common.{◌≡◌, ◌∙◌, ◌+◌, ◌-◌, ◌<◌, ◌≤◌, ℕ, zero, suc, true, false, List, [], ◌∷◌, ◌++◌, map, length, take, get_or, flat_map, refl, sym, ap, subst, arith, append_assoc, append-nil, Chars, Result, Stop, Placed, is_item, names_of, Visit, visits_from, properties_in, ShowsTokens, NoFault, FaultIs, HasFault, Finds, with_name, steps_of, steps_in, visits_in, again, count_of}
+use Rattle.rx_items.proofs.Common.{◌≡◌, ◌∙◌, ◌+◌, ◌-◌, ◌<◌, ◌≤◌, ℕ, zero, suc, true, false, List, [], ◌∷◌, ◌++◌, map, length, take, get_or, flat_map, refl, sym, ap, subst, arith, append_assoc, append-nil, Chars, Result, Stop, Placed, is_item, names_of, Visit, visits_from, properties_in, ShowsTokens, NoFault, FaultIs, HasFault, GivesUnlessFault, with_name, steps_of, steps_in, visits_in, again, token_count}
 use Rattle.rx_grammar.specs.declared.stops.Stop.TheVariants as stop
 use Rattle.rx_items.specs.declared.kept.Tokens.{Tokens}
 use Rattle.rx_items.specs.declared.kept.Tokens.TheVariants as tokens
@@ -26,7 +26,7 @@ times_on start middle after i vs p q = subst (λ (l : List Visit). NoFault start
 pub times_end : (start after n i : ℕ) (vs : List Visit) → i ≤ n → n ≤ i → NoFault start (again i vs) after → NoFault start (again n vs) after
 times_end start after n i vs within over p = let same : i ≡ n = omega (arith, within, over) in subst (λ (k : ℕ). NoFault start (again k vs) after) same p
 
-pub counted : (words : Chars) (ts : Tokens) (texts : List Chars) → ShowsTokens words ts texts → count_of ts ≡ length texts
+pub counted : (words : Chars) (ts : Tokens) (texts : List Chars) → ShowsTokens words ts texts → token_count ts ≡ length texts
 counted words (tokens.One span) texts s = sym (ap (λ (l : List Chars). length l) s.1)
 counted words (tokens.Many list) texts s = ap (λ (l : List Chars). length l) s
 
@@ -36,9 +36,9 @@ module _ (rows : List Placed) (base : Chars) (above : Visit) (left : ℕ) where
   item_again e (name ∷ names) item = (λ i. only rows base above left e (item i) ++ item_again e names item i)
 
   pub item_passed : (e : Placed) (before after count : ℕ) (r : Result (Unit {0}) Stop) → count ≡ length (names_of e) → is_item e ≡ true
-      → Finds before (again count (visits_from (properties_in rows) (suc left) above e)) after (λ done. Unit {0}) r → Finds before (visits_in rows base above left (steps_of e)) after (λ done. Unit {0}) r
+      → GivesUnlessFault before (again count (visits_from (properties_in rows) (suc left) above e)) after (λ done. Unit {0}) r → GivesUnlessFault before (visits_in rows base above left (steps_of e)) after (λ done. Unit {0}) r
   item_passed e before after count r is item f =
-      subst (λ (vs : List Visit). Finds {X = Unit {0}} before vs after (λ done. Unit {0}) r)
+      subst (λ (vs : List Visit). GivesUnlessFault {X = Unit {0}} before vs after (λ done. Unit {0}) r)
       (ap (λ (n : ℕ). again n (visits_from (properties_in rows) (suc left) above e)) is ∙ sym (item_again e (names_of e) item)) f
 
   pub plain_passed : (e : Placed) (n : ℕ) → is_item e ≡ false → NoFault n (visits_in rows base above left (steps_of e)) n

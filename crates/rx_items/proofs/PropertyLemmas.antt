@@ -1,5 +1,5 @@
 -- The runs of an item give its properties, and no others.
-use Rattle.rx_items.proofs.Common.{◌≡◌, ◌∙◌, ℕ, Bool, true, true≢false, List, [], ◌∷◌, Contains, ◌↔◌, Option, Some, None, option_map, refl, sym, ap, subst, not, ◌==◌, ◌&&◌, ◌||◌, list_any, eq-eqb, eqb-true, Chars, slice_get, filter_map, ◌⊎◌, inl, inr, Placed, names_of, is_any, first_with_id, has_id, is_scope, is_property_by_scope, reaches_by_scope, properties_in, AllStand, Numbered, places, gathered, in_runs, is_other, RunsReach}
+use Rattle.rx_items.proofs.Common.{◌≡◌, ◌∙◌, ℕ, Bool, true, true≢false, List, [], ◌∷◌, Contains, ◌↔◌, Option, Some, None, option_map, refl, sym, ap, subst, not, ◌==◌, ◌&&◌, ◌||◌, list_any, eq-eqb, eqb-true, Chars, slice_get, filter_map, ◌⊎◌, inl, inr, Placed, names_of, is_any, first_with_id, has_id, is_scope, is_property_by_scope, reaches_by_scope, properties_in, AllStand, RowsAreNumbered, row_places, gathered, in_runs, is_other, RunsReach}
 use Rattle.rx_microdata.proofs.Lists.{first, later, first_or_later, and_parts, and_of, or_parts, or_left, or_right, bool_same, none, kept, keeps, given, gives, found, any_passes, found_first}
 use Rattle.rx_model.proofs.Common.{⊎_elim}
 use Rattle.rx_items.specs.declared.kept.Run.{Run}
@@ -7,17 +7,17 @@ use Rattle.rx_items.proofs.HoldLemmas.{all_stand, place_is}
 use Rattle.rx_items.proofs.TakeLemmas.{is_there, there_is}
 
 -- the row that a place of some rows stands for
-stands_for : (ps es : List Placed) (x : ℕ) → AllStand ps es → Contains (places es) x → (row : Placed) × (slice_get ps x ≡ Some row) × Contains es row
+stands_for : (ps es : List Placed) (x : ℕ) → AllStand ps es → Contains (row_places es) x → (row : Placed) × (slice_get ps x ≡ Some row) × Contains es row
 stands_for ps [] x s c = none x c
 stands_for ps (e ∷ es) x s c =
-    ⊎_elim (λ same. (e, ap (slice_get ps) (sym same) ∙ s.0, first e es)) (λ l. let r = stands_for ps es x s.1 l in (r.0, r.1, later e r.0 es r.2)) (first_or_later e.place x (places es) c)
+    ⊎_elim (λ same. (e, ap (slice_get ps) (sym same) ∙ s.0, first e es)) (λ l. let r = stands_for ps es x s.1 l in (r.0, r.1, later e r.0 es r.2)) (first_or_later e.place x (row_places es) c)
 
-place_among : (es : List Placed) (row : Placed) → Contains es row → Contains (places es) row.place
+place_among : (es : List Placed) (row : Placed) → Contains es row → Contains (row_places es) row.place
 place_among [] row c = none row c
 place_among (e ∷ es) row c =
-    ⊎_elim (λ same. subst (λ (r : Placed). Contains (places (e ∷ es)) r.place) same (first e.place (places es))) (λ l. later e.place row.place (places es) (place_among es row l)) (first_or_later e row es c)
+    ⊎_elim (λ same. subst (λ (r : Placed). Contains (row_places (e ∷ es)) r.place) same (first e.place (row_places es))) (λ l. later e.place row.place (row_places es) (place_among es row l)) (first_or_later e row es c)
 
-module _ (ps : List Placed) (n : Numbered 0 ps) where
+module _ (ps : List Placed) (n : RowsAreNumbered 0 ps) where
   abbrev pub look : Chars → Option ℕ
   look t = option_map (λ (p : Placed). p.place) (first_with_id ps t)
 
@@ -44,7 +44,7 @@ module _ (ps : List Placed) (n : Numbered 0 ps) where
   -- the runs give the properties
   pub properties_are : (root : Placed) (place : ℕ) (members : List ℕ) (runs : List Run) (starts : List ℕ) → slice_get ps place ≡ Some root
       → ((m : ℕ) → Contains starts m ↔ Contains (filter_map look root.facts.references) m) → ((x : ℕ) → Contains (in_runs members runs) x ↔ RunsReach ps place starts x)
-      → (x : ℕ) → Contains (gathered members runs place) x ↔ Contains (places (properties_in ps root)) x
+      → (x : ℕ) → Contains (gathered members runs place) x ↔ Contains (row_places (properties_in ps root)) x
   properties_are root place members runs starts there begins reach x = (to, from)
     where
       at_root : root.place ≡ place
@@ -60,20 +60,20 @@ module _ (ps : List Placed) (n : Numbered 0 ps) where
           ap not (bool_same (root.place == e.place) (x == place) (λ t. eq-eqb x place (sym at ∙ sym (eqb-true root.place e.place t) ∙ at_root)) (λ t. eq-eqb root.place e.place (at_root ∙ sym (eqb-true x place t) ∙ sym at)))
 
       passes : (e : Placed) → slice_get ps x ≡ Some e → is_other place x ≡ true → is_any (names_of e) ≡ true → (is_scope root.place e.scope || reaches e) ≡ true
-          → Contains (places (properties_in ps root)) x
+          → Contains (row_places (properties_in ps root)) x
       passes e g o named h =
-          subst (Contains (places (properties_in ps root))) (place_is ps x e n g)
+          subst (Contains (row_places (properties_in ps root))) (place_is ps x e n g)
           (place_among (properties_in ps root) e (keeps (is_property_by_scope ps root) ps e (is_there ps x e g)
           (and_of (not (root.place == e.place) && is_any (names_of e)) (is_scope root.place e.scope || reaches e) (and_of (not (root.place == e.place)) (is_any (names_of e)) (other e g ∙ o) named) h)))
 
-      reached : RunsReach ps place starts x → is_other place x ≡ true → Contains (places (properties_in ps root)) x
+      reached : RunsReach ps place starts x → is_other place x ≡ true → Contains (row_places (properties_in ps root)) x
       reached (inl o) h = passes o.row o.is h o.named (or_left (is_scope root.place o.row.scope) (reaches o.row) (ap (is_scope root.place) o.scope_is ∙ eq-eqb place root.place (sym at_root)))
       reached (inr a) h =
           passes a.reached.row a.reached.is h a.reached.named
           (or_right (is_scope root.place a.reached.row.scope) (reaches a.reached.row)
           (start_any (reaches_by_scope a.reached.row) root.facts.references a.place a.start ((begins a.place).0 a.among) a.there a.reached.reaches))
 
-      to : Contains (gathered members runs place) x → Contains (places (properties_in ps root)) x
+      to : Contains (gathered members runs place) x → Contains (row_places (properties_in ps root)) x
       to c = let f = kept (is_other place) (in_runs members runs) x c in reached ((reach x).0 f.0) f.1
 
       scope_of : (o : Option ℕ) → is_scope root.place o ≡ true → o ≡ Some place
@@ -86,7 +86,7 @@ module _ (ps : List Placed) (n : Numbered 0 ps) where
           let a = any_start (reaches_by_scope row) root.facts.references e in
           inr (record { place = a.0; start = a.1; among = (begins a.0).1 a.2; there = a.3; reached = record { row = row; is = is; named = named; reaches = a.4 } })
 
-      from : Contains (places (properties_in ps root)) x → Contains (gathered members runs place) x
+      from : Contains (row_places (properties_in ps root)) x → Contains (gathered members runs place) x
       from c =
           let r = stands_for ps (properties_in ps root) x (all_stand (is_property_by_scope ps root) ps n) c in
           let parts = and_parts (not (root.place == (r.0).place) && is_any (names_of r.0)) (is_scope root.place (r.0).scope || reaches r.0) (kept (is_property_by_scope ps root) ps r.0 r.2).1 in

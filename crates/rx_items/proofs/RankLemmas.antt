@@ -1,5 +1,5 @@
 -- The rows of a tree are its elements that matter, renumbered.
-use Rattle.rx_items.proofs.Common.{⊤, ◌==◌, ◌≡◌, ℕ, zero, suc, ◌+◌, ◌≤◌, Bool, true, false, nat_lt, cond, List, [], ◌∷◌, ◌++◌, map, filter, length, Contains, Option, option_map, refl, sym, ap, subst, ◌∙◌, ltb-true, lt-ltb, eq-eqb, cases_lt, eqb-true, filter-append, inl, inr, arith, Tree, end, element, text, begins_item, facts_of, Placed, count, scope_in, placed_from, none, three, bool_same, matters, needed, behind, row_count, with_row, rows_from}
+use Rattle.rx_items.proofs.Common.{⊤, ◌==◌, ◌≡◌, ℕ, zero, suc, ◌+◌, ◌≤◌, Bool, true, false, nat_lt, cond, List, [], ◌∷◌, ◌++◌, map, filter, length, Contains, Option, option_map, refl, sym, ap, subst, ◌∙◌, ltb-true, lt-ltb, eq-eqb, cases_lt, eqb-true, filter-append, inl, inr, arith, Tree, end, element, text, begins_item, facts_of, Placed, count, scope_in, placed_from, none, three, bool_same, matters, needed, behind_row, row_count, with_row, rows_from}
 use Rattle.std.proofs.lemmas.List.{map-append, length-append, append_assoc}
 use Rattle.rx_terms.proofs.Bools.{by_test}
 use Rattle.rx_model.proofs.Common.{⊎_elim}
@@ -9,7 +9,7 @@ use Rattle.rx_items.proofs.Alike.{moved}
 abbrev pub is_row : Placed → Bool
 is_row e = matters e.facts
 
-behind_more : (b : Bool) (m n : ℕ) → m ≤ n → behind b m ≤ behind b n
+behind_more : (b : Bool) (m n : ℕ) → m ≤ n → behind_row b m ≤ behind_row b n
 behind_more true m n h = omega (arith, h)
 behind_more false m n h = h
 
@@ -19,29 +19,29 @@ rank_rises (m ∷ ms) zero q h = omega arith
 rank_rises (m ∷ ms) (suc p) zero h = absurd (omega (arith, h))
 rank_rises (m ∷ ms) (suc p) (suc q) h = behind_more m (rank_in ms p) (rank_in ms q) (rank_rises ms p q (omega (arith, h)))
 
-behind_zero : (m : Bool) (ms : List Bool) → behind m (rank_in ms 0) ≡ behind m 0
+behind_zero : (m : Bool) (ms : List Bool) → behind_row m (rank_in ms 0) ≡ behind_row m 0
 behind_zero m [] = refl
 behind_zero m (x ∷ ms) = refl
 
-behind_twice : (b c : Bool) (n : ℕ) → behind b (behind c n) ≡ behind c (behind b n)
+behind_twice : (b c : Bool) (n : ℕ) → behind_row b (behind_row c n) ≡ behind_row c (behind_row b n)
 behind_twice true true n = refl
 behind_twice _ _ n = refl
 
 rank_there : (front : List Bool) (m : Bool) (back : List Bool)
-    → rank_in (front ++ (m ∷ back)) (suc (length front)) ≡ behind m (rank_in (front ++ (m ∷ back)) (length front))
+    → rank_in (front ++ (m ∷ back)) (suc (length front)) ≡ behind_row m (rank_in (front ++ (m ∷ back)) (length front))
 rank_there [] m back = behind_zero m back
 rank_there (x ∷ front) m back =
-    ap (behind x) (rank_there front m back) ∙ behind_twice x m (rank_in (front ++ (m ∷ back)) (length front))
+    ap (behind_row x) (rank_there front m back) ∙ behind_twice x m (rank_in (front ++ (m ∷ back)) (length front))
 
 module _ (rank : ℕ → ℕ) where
   -- the numbers count the rows of these nodes
   abbrev pub Ranks : ℕ → Tree → Type 0
   Ranks place end = ⊤
   Ranks place (element tag inner more) =
-      (rank (suc place) ≡ behind (matters (facts_of tag inner)) (rank place)) × Ranks (suc place) inner × Ranks (suc place + count inner) more
+      (rank (suc place) ≡ behind_row (matters (facts_of tag inner)) (rank place)) × Ranks (suc place) inner × Ranks (suc place + count inner) more
   Ranks place (text chars more) = Ranks place more
 
-  behind_sum : (b : Bool) (p i m : ℕ) → behind b p + i + m ≡ p + (behind b i + m)
+  behind_sum : (b : Bool) (p i m : ℕ) → behind_row b p + i + m ≡ p + (behind_row b i + m)
   behind_sum true p i m = omega arith
   behind_sum false p i m = omega arith
 
@@ -68,8 +68,8 @@ module _ (rank : ℕ → ℕ) where
   rows_are_ranked scope place end r = refl
   rows_are_ranked scope place (element tag inner more) r =
       let b = matters (facts_of tag inner) in
-      let next : behind b (rank place) ≡ rank (suc place) = sym r.0 in
-      let past : behind b (rank place) + row_count inner ≡ rank (suc place + count inner) =
+      let next : behind_row b (rank place) ≡ rank (suc place) = sym r.0 in
+      let past : behind_row b (rank place) + row_count inner ≡ rank (suc place + count inner) =
       ap (λ n. n + row_count inner) next ∙ sym (ranked_count (suc place) inner r.1) in
       let s : scope_in tag (rank place) (option_map rank scope) ≡ option_map rank (scope_in tag place scope) = by_test (begins_item tag) (λ t. rw t refl) (λ t. rw t refl) in
       let inside = (λ i. rows_from (s i) (next i) inner) ∙ rows_are_ranked (scope_in tag place scope) (suc place) inner r.1 in
@@ -78,9 +78,9 @@ module _ (rank : ℕ → ℕ) where
       let aft = placed_from scope (suc place + count inner) more in
       let all = (λ i. inside i ++ after i) ∙ sym (map-append ranked (filter is_row ins) (filter is_row aft)) ∙ ap (map ranked) (sym (filter-append is_row ins aft)) in
       join b
-      (record { place = rank place; past = behind b (rank place) + row_count inner; scope = option_map rank scope; facts = needed (facts_of tag inner) })
+      (record { place = rank place; past = behind_row b (rank place) + row_count inner; scope = option_map rank scope; facts = needed (facts_of tag inner) })
       (record { place = place; past = suc place + count inner; scope = scope; facts = facts_of tag inner })
-      (rows_from (scope_in tag (rank place) (option_map rank scope)) (behind b (rank place)) inner ++ rows_from (option_map rank scope) (behind b (rank place) + row_count inner) more)
+      (rows_from (scope_in tag (rank place) (option_map rank scope)) (behind_row b (rank place)) inner ++ rows_from (option_map rank scope) (behind_row b (rank place) + row_count inner) more)
       (filter is_row (ins ++ aft))
       (λ i. record { place = rank place; past = past i; scope = option_map rank scope; facts = needed (facts_of tag inner) })
       all
@@ -97,7 +97,7 @@ module _ (rank : ℕ → ℕ) where
       elim (three head e (placed_from (scope_in tag place scope) (suc place) inner) (placed_from scope (suc place + count inner) more) h) as (λ _. Counts e.place) [
         | inl same ↦
             let yes : matters (facts_of tag inner) ≡ true = ap (λ (x : Placed). is_row x) same ∙ t in
-            subst (λ (x : Placed). Counts x.place) same (r.0 ∙ ap (λ b. behind b (rank place)) yes)
+            subst (λ (x : Placed). Counts x.place) same (r.0 ∙ ap (λ b. behind_row b (rank place)) yes)
         | inr (inl i) ↦ row_counts (scope_in tag place scope) (suc place) inner r.1 e i t
         | inr (inr a) ↦ row_counts scope (suc place + count inner) more r.2 e a t
       ]
@@ -136,8 +136,8 @@ ranks_from whole front (element tag inner more) back place e w =
     let size = marks_count inner in (
       ap (λ l. rank_in l (suc place)) split ∙ ap (λ n. rank_in (front ++ (m ∷ (marks inner ++ (marks more ++ back)))) (suc n)) e
           ∙ rank_there front m (marks inner ++ (marks more ++ back))
-          ∙ ap (λ n. behind m (rank_in (front ++ (m ∷ (marks inner ++ (marks more ++ back)))) n)) (sym e)
-          ∙ ap (λ l. behind m (rank_in l place)) (sym split),
+          ∙ ap (λ n. behind_row m (rank_in (front ++ (m ∷ (marks inner ++ (marks more ++ back)))) n)) (sym e)
+          ∙ ap (λ l. behind_row m (rank_in l place)) (sym split),
       ranks_from whole (front ++ (m ∷ [])) inner (marks more ++ back) (suc place) (omega (arith, e, long)) next,
       ranks_from whole ((front ++ (m ∷ [])) ++ marks inner) more back (suc place + count inner) (omega (arith, e, long, length-append (front ++ (m ∷ [])) (marks inner), size))
           (next ∙ sym (append_assoc (front ++ (m ∷ [])) (marks inner) (marks more ++ back))),

@@ -1,5 +1,5 @@
 -- The rows of a page come to what the page comes to.
-use Rattle.rx_items.proofs.Common.{list_any, cons_option, refl, sym, ap, subst, ◌∙◌, Chars, and_right, and_left, inl, inr, Tree, Facts, Placed, elements_of, is_item, names_of, is_top_level, is_any, is_same_id, has_id, first_with_id, properties, is_before, reaches_by_scope, is_scope, is_property_by_scope, outcome_by, first, later, contradiction, or_left, or_right, and_parts, found_first, kept, matters, rows_from, rows_of, properties_in, RowsSuffice, append-nil}
+use Rattle.rx_items.proofs.Common.{list_any, cons_option, refl, sym, ap, subst, ◌∙◌, Chars, and_right, and_left, inl, inr, Tree, MicrodataFacts, Placed, elements_of, is_item, names_of, is_top_level, is_any, is_same_id, has_id, first_with_id, properties, is_after_scope, reaches_by_scope, is_scope, is_property_by_scope, outcome_by, first, later, contradiction, or_left, or_right, and_parts, found_first, kept, matters, rows_from, rows_of, properties_in, RowsSuffice, append-nil}
 use Rattle.std.specs.Prelude.{not, ◌&&◌, ◌||◌, ◌==◌, is_some, unwrap_or, ◌≡◌, ℕ, ◌≤◌, Bool, true, false, ◌⊎◌, List, [], ◌∷◌, map, filter, filter_map, find, Contains, Option, Some, None, option_map}
 use Rattle.rx_model.proofs.Common.{⊎_elim}
 use Rattle.rx_model.proofs.Renaming.{filter_map_map}
@@ -22,10 +22,10 @@ module _ (f : Placed → Placed) (p q : Placed → Bool) where
       by_test (is_row x) (λ t. rw (t, same x (first x xs) t) (by_test (p x) (λ k. rw k (ap (λ l. f x ∷ l) ih)) (λ k. rw k ih))) (λ t. rw (t, fails x (first x xs) t) ih)
 
 -- what matters, and so what doesn't
-item_matters : (facts : Facts) → facts.is_item ≡ true → matters facts ≡ true
+item_matters : (facts : MicrodataFacts) → facts.is_item ≡ true → matters facts ≡ true
 item_matters facts h = or_left facts.is_item (is_some facts.names || is_some facts.id) h
 
-id_matters : (facts : Facts) (token : Chars) → is_same_id token facts.id ≡ true → matters facts ≡ true
+id_matters : (facts : MicrodataFacts) (token : Chars) → is_same_id token facts.id ≡ true → matters facts ≡ true
 id_matters facts token h =
     or_right facts.is_item (is_some facts.names || is_some facts.id) (or_right (is_some facts.names) (is_some facts.id) (by facts.id h))
   where
@@ -33,7 +33,7 @@ id_matters facts token h =
     by None e = contradiction false e refl
     by (Some id) e = refl
 
-named_matters : (facts : Facts) → is_any (unwrap_or facts.names []) ≡ true → matters facts ≡ true
+named_matters : (facts : MicrodataFacts) → is_any (unwrap_or facts.names []) ≡ true → matters facts ≡ true
 named_matters facts h =
     or_right facts.is_item (is_some facts.names || is_some facts.id) (or_left (is_some facts.names) (is_some facts.id) (by facts.names h))
   where
@@ -41,7 +41,7 @@ named_matters facts h =
     by None e = contradiction false e refl
     by (Some names) e = refl
 
-not_so : (test : Bool) (facts : Facts) → (test ≡ true → matters facts ≡ true) → matters facts ≡ false → test ≡ false
+not_so : (test : Bool) (facts : MicrodataFacts) → (test ≡ true → matters facts ≡ true) → matters facts ≡ false → test ≡ false
 not_so true facts f h = contradiction (matters facts) (f refl) h
 not_so false facts f h = refl
 
@@ -99,8 +99,8 @@ module _ (tree : Tree) where
   scope_same : (root e : Placed) → Good root → Contains page e → is_scope (rank root.place) (option_map rank e.scope) ≡ is_scope root.place e.scope
   scope_same root e g = scope_test (is_scope (rank root.place)) (is_scope root.place) refl (λ s c. eq_same rank rises s root.place c (counts root g)) e
 
-  before_same : (start e : Placed) → Contains page e → is_before (option_map rank e.scope) (rank start.place) ≡ is_before e.scope start.place
-  before_same start e = scope_test (λ o. is_before o (rank start.place)) (λ o. is_before o start.place) refl (λ s c. lt_same rank rises s start.place c) e
+  before_same : (start e : Placed) → Contains page e → is_after_scope (option_map rank e.scope) (rank start.place) ≡ is_after_scope e.scope start.place
+  before_same start e = scope_test (λ o. is_after_scope o (rank start.place)) (λ o. is_after_scope o start.place) refl (λ s c. lt_same rank rises s start.place c) e
 
   reaches_same : (start e : Placed) → Good start → Good e → reaches_by_scope (move e) (move start) ≡ reaches_by_scope e start
   reaches_same start e g h =

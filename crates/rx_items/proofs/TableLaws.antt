@@ -1,9 +1,9 @@
 -- Of each tree the table shows the rows.
-use Rattle.rx_items.proofs.Common.{◌||◌, slice_index_or, ◌≡◌, ℕ, suc, ◌+◌, ◌-◌, ◌≤◌, Bool, true, false, cond, List, [], ◌∷◌, ◌++◌, length, take, slice_get, slice_set, Option, Some, None, codes, refl, sym, ap, subst, ◌∙◌, Chars, arith, value_of, StartTag, Tree, end, element, text, Value, attribute, facts_of, all_text, own_text, Placed, scope_in, matters, needed, behind, row_count, with_row, rows_from, mark_of, is_marked, text_of_words, ShowsPart, ShowsValue, ShowsRow, ShowsRows, tag_in, after, nothing_read, TablesShow, get_or-append_seam, set-append_seam}
+use Rattle.rx_items.proofs.Common.{◌||◌, slice_index_or, ◌≡◌, ℕ, suc, ◌+◌, ◌-◌, ◌≤◌, Bool, true, false, cond, List, [], ◌∷◌, ◌++◌, length, take, slice_get, slice_set, Option, Some, None, codes, refl, sym, ap, subst, ◌∙◌, Chars, arith, value_of, StartTag, Tree, end, element, text, Value, attribute_value, facts_of, element_text, own_text, Placed, scope_in, matters, needed, behind_row, row_count, with_row, rows_from, byte_count, is_marked, text_of_words, ShowsPart, ShowsValue, ShowsRow, ShowsRows, tag_in, after, nothing_grown, TablesShow, get_or-append_seam, set-append_seam}
 use Rattle.std.proofs.lemmas.Bool.{lt-ltb, or_left, or_right}
 use Rattle.std.proofs.lemmas.List.{length-append, append-nil, append_assoc}
 use Rattle.rx_items.specs.Values.{taken_of, text_taken}
-use Rattle.rx_items.specs.Growing.{Growing, nothing_open, innermost, row_value, is_text, own_of, with_own, passed, added, head_of, with_said, said, ended_value, ended, nothing_kept, with_end, finished}
+use Rattle.rx_items.specs.Growing.{Growing, nothing_open, innermost, row_value, takes_text, own_of, with_own, element_passed, added, head_of, with_said, text_gathered, ended_value, row_ended, nothing_kept, with_end, element_ended}
 use Rattle.rx_items.specs.declared.rows.Row.{Row}
 use Rattle.rx_items.specs.declared.rows.Open.{Open}
 use Rattle.rx_items.specs.declared.values.Taken.{Taken}
@@ -74,10 +74,10 @@ text_on true t c m = append_assoc t c m
 text_on false t c m = refl
 
 -- text
-says : (at : Open) (g later : Growing) (chars all own : Chars) (ps : List Placed) → innermost g.line ≡ at → Grown at (said g chars) all own ps later
+says : (at : Open) (g later : Growing) (chars all own : Chars) (ps : List Placed) → innermost g.line ≡ at → Grown at (text_gathered g chars) all own ps later
     → Grown at g (chars ++ all) (chars ++ own) ps later
 says at g later chars all own ps e c =
-    let size : length (said g chars).times ≡ length g.times = said_length (innermost g.line).own chars g.times in
+    let size : length (text_gathered g chars).times ≡ length g.times = said_length (innermost g.line).own chars g.times in
     record {
       new = c.new;
       rows = c.rows;
@@ -116,22 +116,22 @@ rows_length : (scope : Option ℕ) (place : ℕ) (tree : Tree) → length (rows_
 rows_length scope place end = refl
 rows_length scope place (element tag inner more) =
     let b : Bool = matters (facts_of tag inner) in
-    counted b _ _ _ _ _ (rows_length (scope_in tag place scope) (behind b place) inner) (rows_length scope (behind b place + row_count inner) more)
+    counted b _ _ _ _ _ (rows_length (scope_in tag place scope) (behind_row b place) inner) (rows_length scope (behind_row b place + row_count inner) more)
   where
-    counted : (b : Bool) (p : Placed) (xs ys : List Placed) (n m : ℕ) → length xs ≡ n → length ys ≡ m → length (with_row b p (xs ++ ys)) ≡ behind b n + m
+    counted : (b : Bool) (p : Placed) (xs ys : List Placed) (n m : ℕ) → length xs ≡ n → length ys ≡ m → length (with_row b p (xs ++ ys)) ≡ behind_row b n + m
     counted true p xs ys n m e f = omega (arith, length-append xs ys, e, f)
     counted false p xs ys n m e f = omega (arith, length-append xs ys, e, f)
 rows_length scope place (text chars more) = rows_length scope place more
 
 -- an element that is no row
 passes : (at : Open) (g g2 : Growing) (all own : Chars) (ps : List Placed) → innermost g.line ≡ at
-    → Grown (record { row = None; scope = at.scope; gathers = at.gathers; own = None }) (passed g) all own ps g2 → Begun at g all ps (finished g2)
+    → Grown (record { row = None; scope = at.scope; gathers = at.gathers; own = None }) (element_passed g) all own ps g2 → Begun at g all ps (element_ended g2)
 passes at g g2 all own ps e a =
     let y : Open = record { row = None; scope = (innermost g.line).scope; gathers = (innermost g.line).gathers; own = None } in
     let last : innermost g2.line ≡ y = ap innermost a.line ∙ last_of g.line y nothing_open in
     record {
       new = a.new;
-      rows = ap (λ (o : Open). with_end o.row (mark_of g2.text) g2.rows) last ∙ a.rows;
+      rows = ap (λ (o : Open). with_end o.row (byte_count g2.text) g2.rows) last ∙ a.rows;
       line = ap (λ (l : List Open). take (length l - 1) l) a.line ∙ front_of g.line y;
       more_words = a.more_words;
       words = a.words;
@@ -169,8 +169,8 @@ times_are _ own times more = refl
 
 -- the value of a row whose element has ended
 value_shown : (tk : Taken) (words later front longer more_text : Chars) (times more : List Chars) (v : Value) (all own : Chars)
-    → More words later → longer ≡ front ++ more_text → (is_text tk ≡ true → more_text ≡ all) → ShowsTaken words tk v all own
-    → ShowsValue later longer (times ++ own_times tk own more) (ended_value (row_value tk (mark_of front) (length times)) (mark_of longer)) v
+    → More words later → longer ≡ front ++ more_text → (takes_text tk ≡ true → more_text ≡ all) → ShowsTaken words tk v all own
+    → ShowsValue later longer (times ++ own_times tk own more) (ended_value (row_value tk (byte_count front) (length times)) (byte_count longer)) v
 value_shown taken.Empty words later front longer mt times more v all own w t g s = s
 value_shown (taken.Written span) words later front longer mt times more v all own w t g s =
     (s.0, s.1, subst (λ l. ShowsPart l span s.0) (sym w.1) (stands_more words w.0 span s.0 s.2))
@@ -183,7 +183,7 @@ value_shown taken.Text words later front longer mt times more v all own w t g s 
       record {
         front = front;
         rest = [];
-        is_run = record { is_whole = whole ∙ ap (λ l. front ++ l) (sym (append-nil all)); from = refl; to = ap mark_of whole };
+        is_run = record { is_whole = whole ∙ ap (λ l. front ++ l) (sym (append-nil all)); from = refl; to = ap byte_count whole };
       },
     )
 value_shown taken.ChildText words later front longer mt times more v all own w t g s = (own, s, get_behind times own more)
@@ -194,16 +194,16 @@ own_from _ mark last size = tt
 
 -- a row ends
 row_ends : (rows new whole : List Row) (row : Row) (mark : ℕ) → whole ≡ (rows ++ (row ∷ [])) ++ new
-    → with_end (Some (length rows)) mark whole ≡ rows ++ (ended row (length whole) mark ∷ new)
+    → with_end (Some (length rows)) mark whole ≡ rows ++ (row_ended row (length whole) mark ∷ new)
 row_ends rows new whole row mark e =
     let split : whole ≡ rows ++ (row ∷ new) = e ∙ append_assoc rows (row ∷ []) new in
     let long : length whole ≡ length (rows ++ (row ∷ new)) = ap (λ (l : List Row). length l) split in
-    ap (λ b. cond b (slice_set whole (length rows) (ended (slice_index_or whole (length rows) nothing_kept) (length whole) mark)) whole)
+    ap (λ b. cond b (slice_set whole (length rows) (row_ended (slice_index_or whole (length rows) nothing_kept) (length whole) mark)) whole)
     (lt-ltb (length rows) (length whole) (omega (arith, length-append rows (row ∷ new), long)))
-    ∙ ap (λ (x : Row). slice_set whole (length rows) (ended x (length whole) mark))
+    ∙ ap (λ (x : Row). slice_set whole (length rows) (row_ended x (length whole) mark))
     (ap (λ (l : List Row). slice_index_or l (length rows) nothing_kept) split ∙ get_or-append_seam rows row new nothing_kept)
-    ∙ ap (λ (l : List Row). slice_set l (length rows) (ended row (length whole) mark)) split
-    ∙ set-append_seam rows row new (ended row (length whole) mark)
+    ∙ ap (λ (l : List Row). slice_set l (length rows) (row_ended row (length whole) mark)) split
+    ∙ set-append_seam rows row new (row_ended row (length whole) mark)
 
 module _ (g : Growing) (t : StartTag) (inner : Tree) where
   abbrev kept_text : Chars
@@ -219,7 +219,7 @@ module _ (g : Growing) (t : StartTag) (inner : Tree) where
   newest at = record {
     row = Some (length g.rows);
     scope = scope_in t (length g.rows) at.scope;
-    gathers = at.gathers || is_text tk;
+    gathers = at.gathers || takes_text tk;
     own = own_of tk (length g.times);
   }
 
@@ -228,15 +228,15 @@ module _ (g : Growing) (t : StartTag) (inner : Tree) where
     head = head_of g.words (tag_in t) t.token t.at;
     past = 0;
     scope = at.scope;
-    value = row_value tk (mark_of g.text) (length g.times);
+    value = row_value tk (byte_count g.text) (length g.times);
   }
 
   abbrev placed : Open → Placed
   placed at = record { place = length g.rows; past = suc (length g.rows) + row_count inner; scope = at.scope; facts = needed (facts_of t inner) }
 
   adds : (at : Open) (g2 : Growing) (ps : List Placed) → innermost g.line ≡ at → length ps ≡ row_count inner
-      → Grown (newest at) marked (all_text inner) (own_text inner) ps g2
-      → Begun at g (all_text inner) (placed at ∷ ps) (finished g2)
+      → Grown (newest at) marked (element_text inner) (own_text inner) ps g2
+      → Begun at g (element_text inner) (placed at ∷ ps) (element_ended g2)
   adds at g2 ps e count a =
       let last : innermost g2.line ≡ newest at =
       ap innermost a.line ∙ last_of g.line (newest (innermost g.line)) nothing_open ∙ ap newest e in
@@ -250,16 +250,16 @@ module _ (g : Growing) (t : StartTag) (inner : Tree) where
       let shown_words = words_shown g.words t.attributes g2.words kept_more in
       let times : g2.times ≡ g.times ++ own_times tk (own_text inner) a.more_times = a.times ∙ times_are tk (own_text inner) g.times a.more_times in
       let shown_value =
-      subst (λ (l : List Chars). ShowsValue g2.words g2.text l (ended_value (row_value tk (mark_of g.text) (length g.times)) (mark_of g2.text)) (needed (facts_of t inner)).value) (sym times)
-      (value_shown tk (text_taken kept_text (tag_in t)) g2.words g.text g2.text a.more_text g.times a.more_times (needed (facts_of t inner)).value (all_text inner) (own_text inner)
-      words_more a.text_is (λ k. a.gathered (or_right at.gathers (is_text tk) k)) (taken_shown kept_text t inner)) in
-      let row : ShowsRow g2.words g2.text g2.times (ended (new_row at) (length g2.rows) (mark_of g2.text)) (placed at) = record {
+      subst (λ (l : List Chars). ShowsValue g2.words g2.text l (ended_value (row_value tk (byte_count g.text) (length g.times)) (byte_count g2.text)) (needed (facts_of t inner)).value) (sym times)
+      (value_shown tk (text_taken kept_text (tag_in t)) g2.words g.text g2.text a.more_text g.times a.more_times (needed (facts_of t inner)).value (element_text inner) (own_text inner)
+      words_more a.text_is (λ k. a.gathered (or_right at.gathers (takes_text tk) k)) (taken_shown kept_text t inner)) in
+      let row : ShowsRow g2.words g2.text g2.times (row_ended (new_row at) (length g2.rows) (byte_count g2.text)) (placed at) = record {
         token = refl;
         at = refl;
         past = past;
         scope = refl;
         is_item = refl;
-        named = sym (any_names (attribute t "itemprop"));
+        named = sym (any_names (attribute_value t "itemprop"));
         itemprop = value_of t.attributes (codes "itemprop");
         has_names = shown_words.names;
         names = refl;
@@ -274,64 +274,64 @@ module _ (g : Growing) (t : StartTag) (inner : Tree) where
         value = shown_value;
       } in
       record {
-        new = ended (new_row at) (length g2.rows) (mark_of g2.text) ∷ a.new;
-        rows = ap (λ (o : Open). with_end o.row (mark_of g2.text) g2.rows) last ∙ row_ends g.rows a.new g2.rows (new_row at) (mark_of g2.text) rows2;
+        new = row_ended (new_row at) (length g2.rows) (byte_count g2.text) ∷ a.new;
+        rows = ap (λ (o : Open). with_end o.row (byte_count g2.text) g2.rows) last ∙ row_ends g.rows a.new g2.rows (new_row at) (byte_count g2.text) rows2;
         line = ap (λ (l : List Open). take (length l - 1) l) a.line ∙ front_of g.line (newest (innermost g.line));
         more_words = all_more.0;
         words = all_more.1;
         more_text = a.more_text;
         text_is = a.text_is;
-        gathered = λ k. a.gathered (or_left at.gathers (is_text tk) k);
+        gathered = λ k. a.gathered (or_left at.gathers (takes_text tk) k);
         more_times = own_times tk (own_text inner) a.more_times;
         times = times;
         shown = (row, a.shown);
-        owns = (own_from tk (mark_of g.text) (mark_of g2.text) (length g.times), owns_weaker (length marked.times) (length g.times) a.new (own_size tk g.times) a.owns);
+        owns = (own_from tk (byte_count g.text) (byte_count g2.text) (length g.times), owns_weaker (length marked.times) (length g.times) a.new (own_size tk g.times) a.owns);
       }
 
 -- the rows of an element and of what follows it
 element_rows : (t : StartTag) (inner more : Tree) (scope : Option ℕ) (place : ℕ) (b : Bool) → is_marked t.attributes ≡ b
     → rows_from scope place (element t inner more)
-    ≡ with_row b (record { place = place; past = behind b place + row_count inner; scope = scope; facts = needed (facts_of t inner) })
-    (rows_from (scope_in t place scope) (behind b place) inner ++ rows_from scope (behind b place + row_count inner) more)
+    ≡ with_row b (record { place = place; past = behind_row b place + row_count inner; scope = scope; facts = needed (facts_of t inner) })
+    (rows_from (scope_in t place scope) (behind_row b place) inner ++ rows_from scope (behind_row b place + row_count inner) more)
 element_rows t inner more scope place b e =
-    ap (λ m. with_row m (record { place = place; past = behind m place + row_count inner; scope = scope; facts = needed (facts_of t inner) })
-    (rows_from (scope_in t place scope) (behind m place) inner ++ rows_from scope (behind m place + row_count inner) more)) (marks_matter t inner ∙ e)
+    ap (λ m. with_row m (record { place = place; past = behind_row m place + row_count inner; scope = scope; facts = needed (facts_of t inner) })
+    (rows_from (scope_in t place scope) (behind_row m place) inner ++ rows_from scope (behind_row m place + row_count inner) more)) (marks_matter t inner ∙ e)
 
 abbrev Grows : Tree → Type 0
 Grows tree = (at : Open) (g : Growing) → innermost g.line ≡ at → OwnIn at.own (length g.times)
-    → Grown at g (all_text tree) (own_text tree) (rows_from at.scope (length g.rows) tree) (after g tree)
+    → Grown at g (element_text tree) (own_text tree) (rows_from at.scope (length g.rows) tree) (after g tree)
 
 module _ (t : StartTag) (inner more : Tree) (in_inner : Grows inner) (in_more : Grows more) (at : Open) (g : Growing) (e : innermost g.line ≡ at) (o : OwnIn at.own (length g.times)) where
   abbrev Whole : Growing → Type 0
-  Whole later = Grown at g (all_text inner ++ all_text more) (own_text more) (rows_from at.scope (length g.rows) (element t inner more)) later
+  Whole later = Grown at g (element_text inner ++ element_text more) (own_text more) (rows_from at.scope (length g.rows) (element t inner more)) later
 
   -- what follows, where the rows of the element are known
-  follows : (mid : Growing) (b : Bool) (ps : List Placed) → is_marked t.attributes ≡ b → Begun at g (all_text inner) ps mid
-      → with_row b (record { place = length g.rows; past = behind b (length g.rows) + row_count inner; scope = at.scope; facts = needed (facts_of t inner) })
-      (rows_from (scope_in t (length g.rows) at.scope) (behind b (length g.rows)) inner) ≡ ps
+  follows : (mid : Growing) (b : Bool) (ps : List Placed) → is_marked t.attributes ≡ b → Begun at g (element_text inner) ps mid
+      → with_row b (record { place = length g.rows; past = behind_row b (length g.rows) + row_count inner; scope = at.scope; facts = needed (facts_of t inner) })
+      (rows_from (scope_in t (length g.rows) at.scope) (behind_row b (length g.rows)) inner) ≡ ps
       → Whole (after mid more)
   follows mid b ps m a same =
-      let ins : List Placed = rows_from (scope_in t (length g.rows) at.scope) (behind b (length g.rows)) inner in
-      let p : Placed = record { place = length g.rows; past = behind b (length g.rows) + row_count inner; scope = at.scope; facts = needed (facts_of t inner) } in
+      let ins : List Placed = rows_from (scope_in t (length g.rows) at.scope) (behind_row b (length g.rows)) inner in
+      let p : Placed = record { place = length g.rows; past = behind_row b (length g.rows) + row_count inner; scope = at.scope; facts = needed (facts_of t inner) } in
       let long = length-append g.rows a.new in
       let mid_size : length mid.rows ≡ length (g.rows ++ a.new) = ap (λ (l : List Row). length l) a.rows in
       let new_size = shows_length mid.words mid.text mid.times a.new ps a.shown in
-      let row_size : length ps ≡ behind b (row_count inner) = ap (λ (l : List Placed). length l) (sym same) ∙ size_of b p ins ∙ ap (behind b) (rows_length (scope_in t (length g.rows) at.scope) (behind b (length g.rows)) inner) in
-      let place : length mid.rows ≡ behind b (length g.rows) + row_count inner = sum_of b (length mid.rows) (length g.rows) (row_count inner) (mid_size ∙ long ∙ ap (λ n. length g.rows + n) (new_size ∙ row_size)) in
+      let row_size : length ps ≡ behind_row b (row_count inner) = ap (λ (l : List Placed). length l) (sym same) ∙ size_of b p ins ∙ ap (behind_row b) (rows_length (scope_in t (length g.rows) at.scope) (behind_row b (length g.rows)) inner) in
+      let place : length mid.rows ≡ behind_row b (length g.rows) + row_count inner = sum_of b (length mid.rows) (length g.rows) (row_count inner) (mid_size ∙ long ∙ ap (λ n. length g.rows + n) (new_size ∙ row_size)) in
       let times_size : length mid.times ≡ length (g.times ++ a.more_times) = ap (λ (l : List Chars). length l) a.times in
       let c = in_more at mid (ap innermost a.line ∙ e) (own_grows at.own (length g.times) (length mid.times) (omega (arith, length-append g.times a.more_times, times_size)) o) in
       let whole : rows_from at.scope (length g.rows) (element t inner more) ≡ ps ++ rows_from at.scope (length mid.rows) more =
       element_rows t inner more at.scope (length g.rows) b m
-      ∙ front_row b p ins (rows_from at.scope (behind b (length g.rows) + row_count inner) more)
+      ∙ front_row b p ins (rows_from at.scope (behind_row b (length g.rows) + row_count inner) more)
       ∙ (λ i. same i ++ rows_from at.scope (sym place i) more) in
-      subst (λ rows. Grown at g (all_text inner ++ all_text more) (own_text more) rows (after mid more)) (sym whole)
-      (join at g mid (after mid more) (all_text inner) (all_text more) (own_text more) ps (rows_from at.scope (length mid.rows) more) o a c)
+      subst (λ rows. Grown at g (element_text inner ++ element_text more) (own_text more) rows (after mid more)) (sym whole)
+      (join at g mid (after mid more) (element_text inner) (element_text more) (own_text more) ps (rows_from at.scope (length mid.rows) more) o a c)
     where
-      size_of : (b : Bool) (p : Placed) (rows : List Placed) → length (with_row b p rows) ≡ behind b (length rows)
+      size_of : (b : Bool) (p : Placed) (rows : List Placed) → length (with_row b p rows) ≡ behind_row b (length rows)
       size_of true p rows = refl
       size_of false p rows = refl
 
-      sum_of : (b : Bool) (n p i : ℕ) → n ≡ p + behind b i → n ≡ behind b p + i
+      sum_of : (b : Bool) (n p i : ℕ) → n ≡ p + behind_row b i → n ≡ behind_row b p + i
       sum_of true n p i h = omega (arith, h)
       sum_of false n p i h = h
 
@@ -342,27 +342,27 @@ module _ (t : StartTag) (inner more : Tree) (in_inner : Grows inner) (in_more : 
   marked_size : length (marked g t inner).rows ≡ suc (length g.rows)
   marked_size = let k = length-append g.rows (new_row g t inner (innermost g.line) ∷ []) in omega (arith, k)
 
-  is_marked_row : is_marked t.attributes ≡ true → Whole (after (finished (after (marked g t inner) inner)) more)
+  is_marked_row : is_marked t.attributes ≡ true → Whole (after (element_ended (after (marked g t inner) inner)) more)
   is_marked_row m =
       let last : innermost (marked g t inner).line ≡ newest g t inner at =
       last_of g.line (newest g t inner (innermost g.line)) nothing_open ∙ ap (newest g t inner) e in
       let a = in_inner (newest g t inner at) (marked g t inner) last (own_in (tk g t inner) g.times) in
       let ins : List Placed = rows_from (scope_in t (length g.rows) at.scope) (length (marked g t inner).rows) inner in
       let start = adds g t inner at (after (marked g t inner) inner) ins e (rows_length (scope_in t (length g.rows) at.scope) (length (marked g t inner).rows) inner) a in
-      follows (finished (after (marked g t inner) inner)) true (placed g t inner at ∷ ins) m start
+      follows (element_ended (after (marked g t inner) inner)) true (placed g t inner at ∷ ins) m start
       (ap (λ n. placed g t inner at ∷ rows_from (scope_in t (length g.rows) at.scope) n inner) (sym marked_size))
 
-  is_passed : is_marked t.attributes ≡ false → Whole (after (finished (after (passed g) inner)) more)
+  is_passed : is_marked t.attributes ≡ false → Whole (after (element_ended (after (element_passed g) inner)) more)
   is_passed m =
       let x : Open = record { row = None; scope = at.scope; gathers = at.gathers; own = None } in
       let y : Open = record { row = None; scope = (innermost g.line).scope; gathers = (innermost g.line).gathers; own = None } in
-      let last : innermost (passed g).line ≡ x =
+      let last : innermost (element_passed g).line ≡ x =
       last_of g.line y nothing_open ∙ ap (λ (o : Open). record { row = None; scope = o.scope; gathers = o.gathers; own = None }) e in
-      let start = passes at g (after (passed g) inner) (all_text inner) (own_text inner) (rows_from at.scope (length g.rows) inner) e (in_inner x (passed g) last tt) in
-      follows (finished (after (passed g) inner)) false (rows_from at.scope (length g.rows) inner) m start
+      let start = passes at g (after (element_passed g) inner) (element_text inner) (own_text inner) (rows_from at.scope (length g.rows) inner) e (in_inner x (element_passed g) last tt) in
+      follows (element_ended (after (element_passed g) inner)) false (rows_from at.scope (length g.rows) inner) m start
       (ap (λ b. rows_from (cond b (Some (length g.rows)) at.scope) (length g.rows) inner) (not_item t inner (marks_matter t inner ∙ m)))
 
-  by_mark : (b : Bool) → is_marked t.attributes ≡ b → Whole (after (finished (after (cond b (marked g t inner) (passed g)) inner)) more)
+  by_mark : (b : Bool) → is_marked t.attributes ≡ b → Whole (after (element_ended (after (cond b (marked g t inner) (element_passed g)) inner)) more)
   by_mark true m = is_marked_row m
   by_mark false m = is_passed m
 
@@ -370,13 +370,13 @@ grows : (tree : Tree) → Grows tree
 grows end at g e o = nothing at g
 grows (element t inner more) at g e o = by_mark t inner more (grows inner) (grows more) at g e o (is_marked t.attributes) refl
 grows (text chars more) at g e o =
-    says at g (after (said g chars) more) chars (all_text more) (own_text more) (rows_from at.scope (length g.rows) more) e
-    (grows more at (said g chars) e (own_grows at.own (length g.times) (length (said g chars).times) (omega (arith, said_length (innermost g.line).own chars g.times)) o))
+    says at g (after (text_gathered g chars) more) chars (element_text more) (own_text more) (rows_from at.scope (length g.rows) more) e
+    (grows more at (text_gathered g chars) e (own_grows at.own (length g.times) (length (text_gathered g chars).times) (omega (arith, said_length (innermost g.line).own chars g.times)) o))
 
 pub show : TablesShow
 show tree =
-    let w = grows tree nothing_open nothing_read refl tt in
-    let later = after nothing_read tree in (
+    let w = grows tree nothing_open nothing_grown refl tt in
+    let later = after nothing_grown tree in (
       w.line,
       subst (λ (rows : List Row). ShowsRows later.words later.text later.times rows (rows_from None 0 tree)) (sym w.rows) w.shown,
     )

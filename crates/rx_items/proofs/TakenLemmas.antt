@@ -1,12 +1,13 @@
 -- What is kept of a tag says what the rules read of it.
-use Rattle.rx_items.proofs.Common.{not, ◌&&◌, ◌||◌, is_some, unwrap_or, ◌≡◌, Bool, true, false, cond, List, [], ◌∷◌, ◌++◌, Option, Some, None, option_map, codes, refl, sym, ap, subst, ◌∙◌, Chars, tokens, Attribute, value_of, StartTag, Tree, is_any, matters, is_valued, needed, mark_of, word_text, word_span, span_if, names_in, id_in, types_in, item_id_in, references_in, is_marked, after_names, after_id, after_types, after_item_id, text_of_words, words_of, ShowsPart, ShowsWord, tag_in}
-use Rattle.rx_microdata.specs.Facts.{Value, Written, Reference, Source, AsWritten, AsReference, OrOwnText, AllText, source_of, value_from, value_of_element, attribute, facts_of, all_text, own_text, distinct_tokens, without_repeats_of, referred as referred_value}
-use Rattle.rx_items.specs.Values.{is_asked, taken_of, text_taken, taken_by, text_by, written, referred, own_unless}
+use Rattle.rx_items.proofs.Common.{not, ◌&&◌, ◌||◌, is_some, unwrap_or, ◌≡◌, Bool, true, false, cond, List, [], ◌∷◌, ◌++◌, Option, Some, None, option_map, codes, refl, sym, ap, subst, ◌∙◌, Chars, tokens, Attribute, value_of, StartTag, Tree, is_any, matters, is_valued, needed, byte_count, word_text, word_span, span_if, names_in, id_in, types_in, item_id_in, references_in, is_marked, after_names, after_id, after_types, after_item_id, text_of_words, words_of, ShowsPart, ShowsWord, tag_in}
+use Rattle.rx_microdata.specs.Facts.{Value, Written, Reference, Source, AsWritten, AsReference, OrOwnText, AllText, source_of, value_from, value_of_element, attribute_value, facts_of, own_text, distinct_tokens, without_repeats_of, referred as referred_value}
+use Rattle.rx_items.specs.Values.{is_asked, taken_of, text_taken, taken_by, text_by, written_span, referred_span, own_unless}
 use Rattle.rx_items.specs.declared.spans.Span.{Span}
 use Rattle.rx_items.specs.declared.values.Taken.{Taken}
 use Rattle.rx_items.specs.declared.values.Taken.TheVariants as taken
 use Rattle.rx_items.proofs.ShowLemmas.{word_more}
 use Rattle.std.proofs.lemmas.List.{append-nil, append_assoc}
+use Rattle.rx_rdfa.specs.Tree.{element_text}
 
 -- one text is another with more at its end
 abbrev pub More : Chars → Chars → Type 0
@@ -32,7 +33,7 @@ word_shown text (Some part) = record {
 
 -- where it stands, by where the text ended before and behind it
 abbrev pub kept_span : Chars → Option Chars → Option Span
-kept_span text o = span_if (is_some o) (mark_of text) (mark_of (word_text text o))
+kept_span text o = span_if (is_some o) (byte_count text) (byte_count (word_text text o))
 
 pub kept_shown : (text : Chars) (o : Option Chars) → ShowsWord (word_text text o) (kept_span text o) o
 kept_shown text None = tt
@@ -96,7 +97,7 @@ some_map f (Some x) = refl
 
 pub marks_matter : (t : StartTag) (inner : Tree) → matters (facts_of t inner) ≡ is_marked t.attributes
 marks_matter t inner =
-    ap (λ b. is_some (attribute t "itemscope") || (b || is_some (attribute t "id"))) (some_map distinct_tokens (attribute t "itemprop"))
+    ap (λ b. is_some (attribute_value t "itemscope") || (b || is_some (attribute_value t "id"))) (some_map distinct_tokens (attribute_value t "itemprop"))
 
 any_distinct : (names : List Chars) → is_any (without_repeats_of [] names) ≡ is_any names
 any_distinct [] = refl
@@ -107,7 +108,7 @@ any_names None = refl
 any_names (Some names) = any_distinct (tokens names)
 
 pub asked : (t : StartTag) (inner : Tree) → is_valued (facts_of t inner) ≡ is_asked t.attributes
-asked t inner = ap (λ b. not (is_some (attribute t "itemscope")) && b) (any_names (attribute t "itemprop"))
+asked t inner = ap (λ b. not (is_some (attribute_value t "itemscope")) && b) (any_names (attribute_value t "itemprop"))
 
 -- what is taken of a value says the value, with the text and the own text of the element
 abbrev pub ShowsTaken : Chars → Taken → Value → Chars → Chars → Type 0
@@ -123,21 +124,21 @@ value_shown text None takes v all own none some = none
 value_shown text (Some part) takes v all own none some = some (word_text text (Some part)) part _ (word_shown text (Some part))
 
 source_shown : (s : Source) (text : Chars) (t : StartTag) (inner : Tree)
-    → ShowsTaken (text_by s text t.attributes) (taken_by s text t.attributes) (value_from s t inner) (all_text inner) (own_text inner)
-source_shown (AsWritten name) text t inner = value_shown text (value_of t.attributes name) written (λ o. Written (unwrap_or o [])) (all_text inner) (own_text inner) refl (λ later part span s. (part, refl, s))
-source_shown (AsReference name) text t inner = value_shown text (value_of t.attributes name) referred referred_value (all_text inner) (own_text inner) refl (λ later part span s. (part, refl, s))
-source_shown (OrOwnText name) text t inner = value_shown text (value_of t.attributes name) own_unless (λ o. Written (unwrap_or o (own_text inner))) (all_text inner) (own_text inner) refl (λ later part span s. (part, refl, s))
+    → ShowsTaken (text_by s text t.attributes) (taken_by s text t.attributes) (value_from s t inner) (element_text inner) (own_text inner)
+source_shown (AsWritten name) text t inner = value_shown text (value_of t.attributes name) written_span (λ o. Written (unwrap_or o [])) (element_text inner) (own_text inner) refl (λ later part span s. (part, refl, s))
+source_shown (AsReference name) text t inner = value_shown text (value_of t.attributes name) referred_span referred_value (element_text inner) (own_text inner) refl (λ later part span s. (part, refl, s))
+source_shown (OrOwnText name) text t inner = value_shown text (value_of t.attributes name) own_unless (λ o. Written (unwrap_or o (own_text inner))) (element_text inner) (own_text inner) refl (λ later part span s. (part, refl, s))
 source_shown AllText text t inner = refl
 
 asked_shown : (b : Bool) (s : Source) (text : Chars) (t : StartTag) (inner : Tree)
-    → ShowsTaken (cond b (text_by s text t.attributes) text) (cond b (taken_by s text t.attributes) taken.Empty) (cond b (value_from s t inner) (Written [])) (all_text inner) (own_text inner)
+    → ShowsTaken (cond b (text_by s text t.attributes) text) (cond b (taken_by s text t.attributes) taken.Empty) (cond b (value_from s t inner) (Written [])) (element_text inner) (own_text inner)
 asked_shown true s text t inner = source_shown s text t inner
 asked_shown false s text t inner = refl
 
 pub taken_shown : (text : Chars) (t : StartTag) (inner : Tree)
-    → ShowsTaken (text_taken text (tag_in t)) (taken_of text (tag_in t)) (needed (facts_of t inner)).value (all_text inner) (own_text inner)
+    → ShowsTaken (text_taken text (tag_in t)) (taken_of text (tag_in t)) (needed (facts_of t inner)).value (element_text inner) (own_text inner)
 taken_shown text t inner =
-    subst (λ b. ShowsTaken (text_taken text (tag_in t)) (taken_of text (tag_in t)) (cond b (value_of_element t inner) (Written [])) (all_text inner) (own_text inner)) (sym (asked t inner))
+    subst (λ b. ShowsTaken (text_taken text (tag_in t)) (taken_of text (tag_in t)) (cond b (value_of_element t inner) (Written [])) (element_text inner) (own_text inner)) (sym (asked t inner))
     (asked_shown (is_asked t.attributes) (source_of t.name) text t inner)
 
 text_by_on : (s : Source) (text : Chars) (attributes : List Attribute) → More text (text_by s text attributes)

@@ -1,5 +1,5 @@
 -- The visit of an item, and those of its properties.
-use Rattle.rx_items.proofs.Common.{◌≡◌, ◌∙◌, ◌+◌, ◌<◌, ◌≤◌, ℕ, zero, suc, Bool, true, false, cond, List, [], ◌∷◌, ◌++◌, length, drop, get_or, Option, Some, None, option_map, refl, sym, ap, subst, arith, ◌==◌, nat_le, flat_map, slice_get, Result, Ok, Err, IsErrAnd, list_any, option_or, Chars, Kind, Cycle, ItemsTooNested, ItemsTooMany, Stop, Placed, Visit, visits_from, standard_bounds, fault_of, first_fault, is_cycle, items_in, Refused, properties_in, AllStand, places, At, path_of, kind_of, NoFault, HasFault, Finds, Enters, steps_in, visits_in}
+use Rattle.rx_items.proofs.Common.{◌≡◌, ◌∙◌, ◌+◌, ◌<◌, ◌≤◌, ℕ, zero, suc, Bool, true, false, cond, List, [], ◌∷◌, ◌++◌, length, drop, get_or, Option, Some, None, option_map, refl, sym, ap, subst, arith, ◌==◌, nat_le, flat_map, slice_get, Result, Ok, Err, IsErrAnd, list_any, option_or, Chars, Kind, Cycle, ItemsTooNested, ItemsTooMany, Stop, Placed, Visit, visits_from, standard_bounds, fault_of, first_fault, is_cycle, items_in, Refused, properties_in, AllStand, row_places, HeldOnPath, path_places, visit_fault, NoFault, HasFault, GivesUnlessFault, BeginsVisit, steps_in, visits_in}
 use Rattle.rx_terms.proofs.Bools.{by_test}
 use Rattle.std.proofs.lemmas.List.{length-map}
 use Rattle.rx_grammar.specs.declared.stops.Stop.TheVariants as stop
@@ -14,7 +14,7 @@ pub err_told : {X E : Type 0} (P : Result X E → Type 0) (r : Result X E) (x : 
 err_told P (Ok v) x e p = absurd e
 err_told P (Err y) x e p = subst (λ z. P (Err z)) (sym e) p
 
-pub at_path : {kept : Kept} {rows : List Placed} {base : Chars} {path : List ℕ} {above : Visit} {left : ℕ} (other : List ℕ) → other ≡ path → At kept rows base path above left → At kept rows base other above left
+pub at_path : {kept : Kept} {rows : List Placed} {base : Chars} {path : List ℕ} {above : Visit} {left : ℕ} (other : List ℕ) → other ≡ path → HeldOnPath kept rows base path above left → HeldOnPath kept rows base other above left
 at_path other e at = record { holds = at.holds; path_is = e ∙ at.path_is; deep = at.deep }
 
 pub no_element : (rows : List Placed) (place : ℕ) (e : Placed) → slice_get rows place ≡ Some e → slice_get rows place ≡ None → ⊥
@@ -27,10 +27,10 @@ pub record RowAt (rows es : List Placed) (i place : ℕ) : Type 0 where
   pub within : i < length es
   pub is : row ≡ get_or es i row
 
-pub row_at : (rows es : List Placed) (list : List ℕ) (i : ℕ) → list ≡ places es → AllStand rows es → i < length list → RowAt rows es i (get_or list i 0)
+pub row_at : (rows es : List Placed) (list : List ℕ) (i : ℕ) → list ≡ row_places es → AllStand rows es → i < length list → RowAt rows es i (get_or list i 0)
 row_at rows es list i is stand lt = subst (λ (l : List ℕ). RowAt rows es i (get_or l i 0)) (sym is) (go es i stand (subst (λ (l : List ℕ). i < length l) is lt))
   where
-    go : (es : List Placed) (i : ℕ) → AllStand rows es → i < length (places es) → RowAt rows es i (get_or (places es) i 0)
+    go : (es : List Placed) (i : ℕ) → AllStand rows es → i < length (row_places es) → RowAt rows es i (get_or (row_places es) i 0)
     go [] i s lt = absurd (omega (arith, lt))
     go (e ∷ es) zero s lt = record { row = e; row_is = s.0; within = omega arith; is = refl }
     go (e ∷ es) (suc i) s lt =
@@ -40,11 +40,11 @@ row_at rows es list i is stand lt = subst (λ (l : List ℕ). RowAt rows es i (g
 -- ---- the visit itself
 
 pub enter_err : (above : Visit) (root : Placed) (place : ℕ) (left : ℕ) (P : Placed → List Placed) (old new : Trail) (element : Element) (x : Stop)
-    → old.path.items ≡ path_of above → root.place ≡ place → element.token ≡ root.facts.token → element.at ≡ root.facts.at → Enters old new element place (Err x)
+    → old.path.items ≡ path_places above → root.place ≡ place → element.token ≡ root.facts.token → element.at ≡ root.facts.at → BeginsVisit old new element place (Err x)
     → HasFault old.visits (visits_from P (suc left) above root) x
 enter_err above root place left P old new element stop.NoMemory is at token decides f = tt
 enter_err above root place left P old new element (stop.Fault fault) is at token decides f =
-    let fault_kind : fault_of standard_bounds old.visits (root ∷ above) ≡ Some f.0 = fault_is old.visits above root ∙ (λ i. kind_of (sym is i) old.visits (at i)) ∙ f.1 in
+    let fault_kind : fault_of standard_bounds old.visits (root ∷ above) ≡ Some f.0 = fault_is old.visits above root ∙ (λ i. visit_fault (sym is i) old.visits (at i)) ∙ f.1 in
     record {
       kind = f.0;
       visit = root ∷ above;
@@ -52,16 +52,16 @@ enter_err above root place left P old new element (stop.Fault fault) is at token
       is = ap Refused (sym (f.2 ∙ (λ i. record { kind = f.0; token = token i; at = decides i })));
     }
 
-pub list_end : (list : List ℕ) (es : List Placed) (i : ℕ) → list ≡ places es → length list ≤ i → length es ≤ i
+pub list_end : (list : List ℕ) (es : List Placed) (i : ℕ) → list ≡ row_places es → length list ≤ i → length es ≤ i
 list_end list es i is over = let size = ap (λ (l : List ℕ). length l) is ∙ length-map es (λ (e : Placed). e.place) in omega (arith, size, over)
 
-pub told : {X : Type 0} (start after : ℕ) (visits : List Visit) (Given : X → Type 0) (r : Result X Stop) (x : Stop) → IsErrAnd r (λ y. y ≡ x) → HasFault start visits x → Finds {X = X} start visits after Given r
-told {X} start after visits Given r x is f = err_told (λ (r : Result X Stop). Finds {X = X} start visits after Given r) r x is f
+pub told : {X : Type 0} (start after : ℕ) (visits : List Visit) (Given : X → Type 0) (r : Result X Stop) (x : Stop) → IsErrAnd r (λ y. y ≡ x) → HasFault start visits x → GivesUnlessFault {X = X} start visits after Given r
+told {X} start after visits Given r x is f = err_told (λ (r : Result X Stop). GivesUnlessFault {X = X} start visits after Given r) r x is f
 
 not_cycle : (before : ℕ) (visit : Visit) → fault_of standard_bounds before visit ≡ None → is_cycle visit ≡ false
 not_cycle before visit none = by_test (is_cycle visit) (λ t. let some = rw t at none in absurd (cc (some))) (λ t. t)
 
-not_deep : (path : List ℕ) (visits place : ℕ) → kind_of path visits place ≡ None → nat_le 40 (length path) ≡ false
+not_deep : (path : List ℕ) (visits place : ℕ) → visit_fault path visits place ≡ None → nat_le 40 (length path) ≡ false
 not_deep path visits place none = by (list_any (λ (x : ℕ). x == place) path) (nat_le 40 (length path)) none
   where
     by : (b d : Bool) → cond b (Some Cycle) (cond d (Some ItemsTooNested) (cond (nat_le 100000 visits) (Some ItemsTooMany) None)) ≡ None → d ≡ false
@@ -73,11 +73,11 @@ not_deep path visits place none = by (list_any (λ (x : ℕ). x == place) path) 
 pub record Entered (kept : Kept) (rows : List Placed) (base : Chars) (path : List ℕ) (above : Visit) (left before : ℕ) (root : Placed) : Type 0 where
   pub room : ℕ
   pub left_is : left ≡ suc room
-  pub at : At kept rows base path (root ∷ above) room
+  pub at : HeldOnPath kept rows base path (root ∷ above) room
   pub no_fault : fault_of standard_bounds before (root ∷ above) ≡ None
 
-pub enter_ok : (kept : Kept) (rows : List Placed) (base : Chars) (above : Visit) (left : ℕ) (root : Placed) (place : ℕ) (old new : Trail) (element : Element) → At kept rows base old.path.items above left
-    → slice_get rows place ≡ Some root → Enters old new element place (Ok tt) → Entered kept rows base new.path.items above left old.visits root
+pub enter_ok : (kept : Kept) (rows : List Placed) (base : Chars) (above : Visit) (left : ℕ) (root : Placed) (place : ℕ) (old new : Trail) (element : Element) → HeldOnPath kept rows base old.path.items above left
+    → slice_get rows place ≡ Some root → BeginsVisit old new element place (Ok tt) → Entered kept rows base new.path.items above left old.visits root
 enter_ok kept rows base above left root place old new element at row f = by left at.deep
   where
     place_at : root.place ≡ place
@@ -102,7 +102,7 @@ enter_ok kept rows base above left root place old new element at row f = by left
         path_is = f.1 ∙ (λ i. at.path_is i ++ sym place_at i ∷ []);
         deep = omega (arith, deep);
       };
-      no_fault = fault_is old.visits above root ∙ (λ i. kind_of (sym at.path_is i) old.visits (place_at i)) ∙ f.0;
+      no_fault = fault_is old.visits above root ∙ (λ i. visit_fault (sym at.path_is i) old.visits (place_at i)) ∙ f.0;
     }
 
 module _ (rows : List Placed) (base : Chars) (above : Visit) (root : Placed) (room : ℕ) where

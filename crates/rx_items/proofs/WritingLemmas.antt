@@ -1,5 +1,5 @@
 -- The events of an item and of a page, part by part.
-use Rattle.rx_items.proofs.Common.{take_all, Chars, flat_map, slice_get, OnOk, Result, Ok, Err, Data, array, object, item, Items, Members, no_members, member, Grows, data_events, members_events, each_events, resolved, Facts, said, Placed, is_item, is_top_level, string_of, list_of, with_id, with_types, item_of, grouped, named, json_of_item, properties_in, AllStand, OfRows, data_of, keys_in, key_seen, keys_seen, opening, ending, events_behind, value_behind, value_if, value_at, grouped_at, page_data, top_data}
+use Rattle.rx_items.proofs.Common.{take_all, Chars, flat_map, slice_get, OnOk, Result, Ok, Err, Data, array, object, item, Items, Members, no_members, member, Grows, data_events, members_events, each_events, resolved, MicrodataFacts, said, Placed, is_item, is_top_level, string_of, array_items, with_id, with_types, item_of, grouped_members, property_pairs, json_of_item, properties_in, AllStand, OfRows, data_of, name_keys, key_seen, keys_seen, opening, ending_events, events_behind, value_behind, value_if, value_at, grouped_at, page_data, top_data}
 use Rattle.std.proofs.Common.{◌≡◌, ◌∙◌, ◌+◌, ◌-◌, ◌<◌, ◌≤◌, ℕ, zero, suc, Bool, true, false, true≢false, encode_utf8_all, List, [], ◌∷◌, ◌++◌, map, filter, length, take, drop, drop_of_length-le, get_or, codes, Option, Some, None, refl, sym, ap, arith, append_assoc, append-nil, ◌==◌}
 use Rattle.serde.specs.Event as event
 use Rattle.serde.specs.Event.{Event, Log, Logs}
@@ -12,7 +12,7 @@ use Rattle.rx_items.proofs.NameLemmas.{keys_grouped}
 use Rattle.rx_items.proofs.PageLemmas.{all_data}
 use Rattle.rx_items.proofs.TakeLemmas.{flat_more}
 
-pub same_list : (ds : List Data) → items_of ds ≡ list_of ds
+pub same_list : (ds : List Data) → items_of ds ≡ array_items ds
 same_list [] = refl
 same_list (d ∷ ds) = ap (item d) (same_list ds)
 
@@ -23,14 +23,14 @@ id_first base None more = refl
 id_first base (Some reference) more = refl
 
 -- behind the mark of the object: the id, the name of the properties, these, and the types
-pub item_made : {old begun first keyed group last new : Log} (base : Chars) (root : Facts) (pairs : List (Chars × Data)) (ms : Members) → Logs old begun (event.map_begins None)
+pub item_made : {old begun first keyed group last new : Log} (base : Chars) (root : MicrodataFacts) (pairs : List (Chars × Data)) (ms : Members) → Logs old begun (event.map_begins None)
     → Grows begun first (members_events (with_id base root.item_id no_members)) → Logs first keyed (event.field_key (codes "properties") AsIs)
-    → Grows keyed group (data_events (object ms)) → ms ≡ grouped pairs → Grows group last (members_events (with_types root.types no_members)) → Logs last new event.map_ends
+    → Grows keyed group (data_events (object ms)) → ms ≡ grouped_members pairs → Grows group last (members_events (with_types root.types no_members)) → Logs last new event.map_ends
     → Grows old new (data_events (item_of base root pairs))
 item_made {old} {begun} {first} {keyed} {group} {last} {new} base root pairs ms b i k g is t e =
     let types = members_events (with_types root.types no_members) in
-    let props = data_events (object (grouped pairs)) in
-    let more : Members = member (codes "properties") (object (grouped pairs)) (with_types root.types no_members) in
+    let props = data_events (object (grouped_members pairs)) in
+    let more : Members = member (codes "properties") (object (grouped_members pairs)) (with_types root.types no_members) in
     let told : Grows keyed group props = told_as (data_events (object ms)) props (ap (λ (m : Members). data_events (object m)) is) g in
     let inside = both i (both (one first keyed (event.field_key (codes "properties") AsIs) k) (both told t)) in
     object_made ((members_events (with_id base root.item_id no_members)) ++ event.field_key (codes "properties") AsIs ∷ (props ++ types)) (with_id base root.item_id more) (sym (id_first base root.item_id more)) b inside e
@@ -38,15 +38,15 @@ item_made {old} {begun} {first} {keyed} {group} {last} {new} base root pairs ms 
 -- an item that is not too deep
 pub item_told : {old begun first keyed group last new : Log} (rows : List Placed) (base own : Chars) (left : ℕ) (root : Placed) → (left ≡ 0 → ⊥) → AllStand rows (properties_in rows root)
     → own ≡ base → Logs old begun (event.map_begins None) → Grows begun first (members_events (with_id own root.facts.item_id no_members)) → Logs first keyed (event.field_key (codes "properties") AsIs)
-    → Grows keyed group (data_events (object (grouped_at rows base (left - 1) (keys_in (properties_in rows root)))))
+    → Grows keyed group (data_events (object (grouped_at rows base (left - 1) (name_keys (properties_in rows root)))))
     → Grows group last (members_events (with_types root.facts.types no_members)) → Logs last new event.map_ends → Grows old new (data_events (json_of_item (properties_in rows) base left root))
 item_told {old} {begun} {first} {keyed} {group} {last} {new} rows base own left root some stand same b i k g t e =
     let next : left ≡ suc (left - 1) = by left some in
     let id : Grows begun first (members_events (with_id base root.facts.item_id no_members)) = told_as (members_events (with_id own root.facts.item_id no_members)) _ (ap (λ (o : Chars). members_events (with_id o root.facts.item_id no_members)) same) i in
     told_as (data_events (json_of_item (properties_in rows) base (suc (left - 1)) root)) (data_events (json_of_item (properties_in rows) base left root))
     (ap (λ (m : ℕ). data_events (json_of_item (properties_in rows) base m root)) (sym next))
-    (item_made base root.facts (flat_map (λ (e : Placed). named e (data_of rows base [] (left - 1) e)) (properties_in rows root))
-    (grouped_at rows base (left - 1) (keys_in (properties_in rows root))) b id k g
+    (item_made base root.facts (flat_map (λ (e : Placed). property_pairs e (data_of rows base [] (left - 1) e)) (properties_in rows root))
+    (grouped_at rows base (left - 1) (name_keys (properties_in rows root))) b id k g
     (keys_grouped rows base (left - 1) (properties_in rows root) stand) t e)
   where
     by : (n : ℕ) → (n ≡ 0 → ⊥) → n ≡ suc (n - 1)
@@ -60,7 +60,7 @@ types_told : (texts : List Chars) → (length texts ≡ 0 → ⊥) → event.fie
 types_told [] some = absurd (some refl)
 types_told (text ∷ texts) some =
     ap (λ (is : Items). event.field_key (codes "type") AsIs ∷ data_events (array is)) (same_list (map string_of (text ∷ texts)))
-    ∙ ap (λ us. event.field_key (codes "type") AsIs ∷ us) (sym (append-nil (data_events (array (list_of (map string_of (text ∷ texts)))))))
+    ∙ ap (λ us. event.field_key (codes "type") AsIs ∷ us) (sym (append-nil (data_events (array (array_items (map string_of (text ∷ texts)))))))
 
 pub several_made : {old begun each new : Log} (keyed : Log) (texts : List Chars) → (length texts ≡ 0 → ⊥) → Logs old keyed (event.field_key (codes "type") AsIs) → Logs keyed begun (event.seq_begins None)
     → Grows begun each (each_events (map string_of texts)) → Logs each new event.seq_ends → Grows old new (members_events (with_types texts no_members))
@@ -89,10 +89,10 @@ data_told d e same is = told_as (data_events d) (data_events e) (ap data_events 
 -- ---- a page
 
 pub page_made : {old opened each new : Log} (begun keyed closed : Log) (ds : List Data) → Logs old begun (event.map_begins None) → Logs begun keyed (event.field_key (codes "items") AsIs) → Logs keyed opened (event.seq_begins None)
-    → Grows opened each (each_events ds) → Logs each closed event.seq_ends → Logs closed new event.map_ends → Grows old new (data_events (object (member (codes "items") (array (list_of ds)) no_members)))
+    → Grows opened each (each_events ds) → Logs each closed event.seq_ends → Logs closed new event.map_ends → Grows old new (data_events (object (member (codes "items") (array (array_items ds)) no_members)))
 page_made {old} {opened} {each} {new} begun keyed closed ds b k o g c e =
-    object_made (event.field_key (codes "items") AsIs ∷ data_events (array (items_of ds))) (member (codes "items") (array (list_of ds)) no_members)
-    (ap (λ (is : Items). event.field_key (codes "items") AsIs ∷ data_events (array is)) (same_list ds) ∙ ap (λ us. event.field_key (codes "items") AsIs ∷ us) (sym (append-nil (data_events (array (list_of ds))))))
+    object_made (event.field_key (codes "items") AsIs ∷ data_events (array (items_of ds))) (member (codes "items") (array (array_items ds)) no_members)
+    (ap (λ (is : Items). event.field_key (codes "items") AsIs ∷ data_events (array is)) (same_list ds) ∙ ap (λ us. event.field_key (codes "items") AsIs ∷ us) (sym (append-nil (data_events (array (array_items ds))))))
     b (both (one begun keyed (event.field_key (codes "items") AsIs) k) (array_made ds o g c)) e
 
 module _ (rows : List Placed) (base : Chars) where
@@ -143,7 +143,7 @@ module _ (rows : List Placed) (base : Chars) (left : ℕ) (list : List Named) (i
       ∙ sym (ap (λ (l : List Named). events_behind rows base left before (keys_seen l)) (cut list i d lt))
 
   -- none is left
-  pub member_end : (before : Option (List ℕ)) → length list ≤ i → ending before ≡ events_behind rows base left before (keys_seen (drop i list))
+  pub member_end : (before : Option (List ℕ)) → length list ≤ i → ending_events before ≡ events_behind rows base left before (keys_seen (drop i list))
   member_end before over = sym (ap (λ (l : List Named). events_behind rows base left before (keys_seen l)) (drop_of_length-le list over))
 
 -- ---- what is so of whatever rows are held
@@ -155,8 +155,8 @@ of_all kept old new (Err e) all = tt
 
 -- ---- an id
 
-pub id_told : {old named new : Log} (base : Chars) (text token : Chars) → text ≡ token → Logs old named (event.field_key (codes "id") AsIs) → Grows named new (data_events (string_of (resolved base text)))
+pub id_told : {old property_pairs new : Log} (base : Chars) (text token : Chars) → text ≡ token → Logs old property_pairs (event.field_key (codes "id") AsIs) → Grows property_pairs new (data_events (string_of (resolved base text)))
     → Grows old new (members_events (with_id base (Some token) no_members))
-id_told {old} {named} {new} base text token same k g =
+id_told {old} {property_pairs} {new} base text token same k g =
     told_as (event.field_key (codes "id") AsIs ∷ data_events (string_of (resolved base text))) (members_events (with_id base (Some token) no_members))
-    (ap (λ (t : Chars). event.field_key (codes "id") AsIs ∷ data_events (string_of (resolved base t))) same) (both (one old named (event.field_key (codes "id") AsIs) k) g)
+    (ap (λ (t : Chars). event.field_key (codes "id") AsIs ∷ data_events (string_of (resolved base t))) same) (both (one old property_pairs (event.field_key (codes "id") AsIs) k) g)

@@ -10,28 +10,28 @@ use Rattle.rx_base.specs.Sought.{sought_seen}
 use Rattle.rx_items.specs.declared.collectors.Base.{Base}
 use Rattle.rx_items.specs.declared.collectors.Base.TheVariants as base
 use Rattle.rx_items.specs.declared.collectors.Collector.{Collector}
-use Rattle.rx_items.specs.Growing.{Growing, begun, said, finished}
-use Rattle.rx_items.specs.Showing.{tag_in, nothing_read}
+use Rattle.rx_items.specs.Growing.{Growing, element_begun, text_gathered, element_ended}
+use Rattle.rx_items.specs.Showing.{tag_in, nothing_grown}
 
 -- how a page is read by Microdata's rules: its syntax and limits, and its address
-pub record Setting : Type 0 where
+pub record MicrodataSetting : Type 0 where
   pub syntax : Syntax
   pub limits : Limits
   pub address : Chars
 
 -- no start tag is refused for what it means
-abbrev pub way_of : Setting → Way
-way_of setting = record { syntax = setting.syntax; limits = setting.limits; refused = refuses_none }
+abbrev pub microdata_way : MicrodataSetting → Way
+microdata_way setting = record { syntax = setting.syntax; limits = setting.limits; refused = refuses_none }
 
 -- the table after a sign
-abbrev pub told : Growing → Sign → Growing
-told g (sign.begun t) = begun g (tag_in t) t.token t.at
-told g (sign.said c) = said g (c ∷ [])
-told g sign.finished = finished g
+abbrev pub after_sign : Growing → Sign → Growing
+after_sign g (sign.begun t) = element_begun g (tag_in t) t.token t.at
+after_sign g (sign.said c) = text_gathered g (c ∷ [])
+after_sign g sign.finished = element_ended g
 
 abbrev pub told_all : Growing → List Sign → Growing
 told_all g [] = g
-told_all g (first ∷ more) = told_all (told g first) more
+told_all g (first ∷ more) = told_all (after_sign g first) more
 
 -- the base of a page at an address, of which this is known
 abbrev pub BaseIs : Chars → Seeking → Base → Type 0
@@ -43,13 +43,13 @@ abbrev pub BaseMoves : Chars → (Seeking → Seeking) → Base → Base → Typ
 BaseMoves address move old new = (seeking : Seeking) → BaseIs address seeking old → BaseIs address (move seeking) new
 
 -- The collector was told these signs of a page.
-pub record Collects (setting : Setting) (collector : Collector) (signs : List Sign) : Type 0 where
+pub record Collects (setting : MicrodataSetting) (collector : Collector) (signs : List Sign) : Type 0 where
   pub address_is : collector.address ≡ setting.address
-  pub table_is : collector.table ≡ told_all nothing_read signs
+  pub table_is : collector.table ≡ told_all nothing_grown signs
   pub base_is : BaseIs setting.address (sought signs) collector.base
 
 -- Whatever signs a collector was told, it was told these too.
 abbrev pub CollectsMore : Collector → List Sign → Result (Unit {0}) Stop → Collector → Type 0
 CollectsMore old more result new =
-    (setting : Setting) (signs : List Sign) → Collects setting old signs
-    → Hears (way_of setting).refused (Collects setting) signs more result new
+    (setting : MicrodataSetting) (signs : List Sign) → Collects setting old signs
+    → Hears (microdata_way setting).refused (Collects setting) signs more result new

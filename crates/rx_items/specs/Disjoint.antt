@@ -12,10 +12,10 @@ abbrev pub rest_of : ℕ → Run → List Run
 rest_of end run = if nat_le run.to (max run.from end) then [] else record { from = max run.from end; to = run.to } ∷ []
 
 -- where it ends, if it has anything there
-abbrev pub end_of : ℕ → Run → ℕ
-end_of end run = if nat_le run.to (max run.from end) then end else run.to
+abbrev pub end_with_run : ℕ → Run → ℕ
+end_with_run end run = if nat_le run.to (max run.from end) then end else run.to
 
 -- of each run what is behind those before it
 abbrev pub unshared : ℕ → List Run → List Run
 unshared end [] = []
-unshared end (run ∷ runs) = rest_of end run ++ unshared (end_of end run) runs
+unshared end (run ∷ runs) = rest_of end run ++ unshared (end_with_run end run) runs

@@ -1,9 +1,9 @@
 -- The table while its page is read: what each event makes of it.
 use Rattle.std.specs.Prelude.{◌≡◌, ℕ, Bool, true, false, ◌-◌, not, ◌&&◌, ◌||◌, nat_lt, List, [], ◌∷◌, ◌++◌, length, take, slice_index_or, slice_set, Option, Some, None, is_some, codes, if◌then◌else◌}
 use Rattle.rx_grammar.specs.Common.{Chars, Tag, value_of}
-use Rattle.rx_items.specs.Spans.{mark_of}
+use Rattle.rx_items.specs.Spans.{byte_count}
 use Rattle.rx_items.specs.Words.{is_marked, words_of, text_of_words}
-use Rattle.rx_items.specs.Values.{is_named, taken_of, text_taken}
+use Rattle.rx_items.specs.Values.{has_itemprop, taken_of, text_taken}
 use Rattle.rx_items.specs.declared.rows.Row.{Row}
 use Rattle.rx_items.specs.declared.rows.Words.{Words}
 use Rattle.rx_items.specs.declared.rows.Head.{Head}
@@ -35,9 +35,9 @@ row_value (taken.Reference span) mark times = value.Reference span
 row_value taken.Text mark times = value.Running mark
 row_value taken.ChildText mark times = value.ChildText times
 
-abbrev pub is_text : Taken → Bool
-is_text taken.Text = true
-is_text _ = false
+abbrev pub takes_text : Taken → Bool
+takes_text taken.Text = true
+takes_text _ = false
 
 abbrev pub own_of : Taken → ℕ → Option ℕ
 own_of taken.ChildText times = Some times
@@ -48,8 +48,8 @@ with_own taken.ChildText times = times ++ [] ∷ []
 with_own _ times = times
 
 -- an element that is no row
-abbrev pub passed : Growing → Growing
-passed g = record g {
+abbrev pub element_passed : Growing → Growing
+element_passed g = record g {
   line = g.line ++ record { row = None; scope = (innermost g.line).scope; gathers = (innermost g.line).gathers; own = None } ∷ [];
 }
 
@@ -59,11 +59,11 @@ inner_scope is_item place scope = if is_item then Some place else scope
 -- an element that is one
 abbrev pub added : Growing → Head → Taken → Growing
 added g head taken = record g {
-  rows = g.rows ++ record { head = head; past = 0; scope = (innermost g.line).scope; value = row_value taken (mark_of g.text) (length g.times) } ∷ [];
+  rows = g.rows ++ record { head = head; past = 0; scope = (innermost g.line).scope; value = row_value taken (byte_count g.text) (length g.times) } ∷ [];
   line = g.line ++ record {
     row = Some (length g.rows);
     scope = inner_scope head.is_item (length g.rows) (innermost g.line).scope;
-    gathers = (innermost g.line).gathers || is_text taken;
+    gathers = (innermost g.line).gathers || takes_text taken;
     own = own_of taken (length g.times);
   } ∷ [];
   times = with_own taken g.times;
@@ -75,7 +75,7 @@ head_of text tag token at = record {
   token = token;
   at = at;
   is_item = is_some (value_of tag.attributes (codes "itemscope"));
-  named = is_named tag.attributes;
+  named = has_itemprop tag.attributes;
   words = words_of text tag.attributes;
 }
 
@@ -84,23 +84,23 @@ abbrev pub is_asked_of : Head → Bool
 is_asked_of head = not head.is_item && head.named
 
 -- what is kept of a tag's words, and then of its value
-abbrev pub with_tag : Growing → Tag → Growing
-with_tag g tag = record g { words = text_taken (text_of_words g.words tag.attributes) tag }
+abbrev pub with_tag_words : Growing → Tag → Growing
+with_tag_words g tag = record g { words = text_taken (text_of_words g.words tag.attributes) tag }
 
 -- an element begins
-abbrev pub begun : Growing → Tag → ℕ → ℕ → Growing
-begun g tag token at =
+abbrev pub element_begun : Growing → Tag → ℕ → ℕ → Growing
+element_begun g tag token at =
     if is_marked tag.attributes then
-    added (with_tag g tag) (head_of g.words tag token at) (taken_of (text_of_words g.words tag.attributes) tag)
-    else passed g
+    added (with_tag_words g tag) (head_of g.words tag token at) (taken_of (text_of_words g.words tag.attributes) tag)
+    else element_passed g
 
 abbrev pub with_said : Option ℕ → Chars → List Chars → List Chars
 with_said None chars times = times
 with_said (Some own) chars times = if nat_lt own (length times) then slice_set times own (slice_index_or times own [] ++ chars) else times
 
 -- text
-abbrev pub said : Growing → Chars → Growing
-said g chars = record g {
+abbrev pub text_gathered : Growing → Chars → Growing
+text_gathered g chars = record g {
   text = if (innermost g.line).gathers then g.text ++ chars else g.text;
   times = with_said (innermost g.line).own chars g.times;
 }
@@ -109,8 +109,8 @@ abbrev pub ended_value : RowValue → ℕ → RowValue
 ended_value (value.Running from) mark = value.Run (record { from = from; to = mark })
 ended_value other mark = other
 
-abbrev pub ended : Row → ℕ → ℕ → Row
-ended row past mark = record row { past = past; value = ended_value row.value mark }
+abbrev pub row_ended : Row → ℕ → ℕ → Row
+row_ended row past mark = record row { past = past; value = ended_value row.value mark }
 
 abbrev pub nothing_said : Words
 nothing_said = record {
@@ -138,13 +138,13 @@ nothing_kept = record {
 abbrev pub with_end : Option ℕ → ℕ → List Row → List Row
 with_end None mark rows = rows
 with_end (Some place) mark rows =
-    if nat_lt place (length rows) then slice_set rows place (ended (slice_index_or rows place nothing_kept) (length rows) mark) else rows
+    if nat_lt place (length rows) then slice_set rows place (row_ended (slice_index_or rows place nothing_kept) (length rows) mark) else rows
 
 -- the innermost element ends
-abbrev pub finished : Growing → Growing
-finished g = record g { rows = with_end (innermost g.line).row (mark_of g.text) g.rows; line = take (length g.line - 1) g.line }
+abbrev pub element_ended : Growing → Growing
+element_ended g = record g { rows = with_end (innermost g.line).row (byte_count g.text) g.rows; line = take (length g.line - 1) g.line }
 
 -- text is gathered by no value
-pub record IsIdle (g : Growing) : Type 0 where
+pub record GathersNoText (g : Growing) : Type 0 where
   pub gathers : (innermost g.line).gathers ≡ false
   pub own : (innermost g.line).own ≡ None

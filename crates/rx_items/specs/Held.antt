@@ -91,12 +91,12 @@ ShowsTheSame row x e =
     → ShowsElement words gathered times e p
 
 -- each row stands at its place
-abbrev pub Numbered : ℕ → List Placed → Type 0
-Numbered place [] = ⊤
-Numbered place (p ∷ ps) = (p.place ≡ place) × Numbered (suc place) ps
+abbrev pub RowsAreNumbered : ℕ → List Placed → Type 0
+RowsAreNumbered place [] = ⊤
+RowsAreNumbered place (p ∷ ps) = (p.place ≡ place) × RowsAreNumbered (suc place) ps
 
-abbrev pub places : List Placed → List ℕ
-places rows = map (λ (p : Placed). p.place) rows
+abbrev pub row_places : List Placed → List ℕ
+row_places rows = map (λ (p : Placed). p.place) rows
 
 -- each of these is the row at its place
 abbrev pub AllStand : List Placed → List Placed → Type 0
@@ -104,29 +104,29 @@ AllStand rows [] = ⊤
 AllStand rows (e ∷ es) = (slice_get rows e.place ≡ Some e) × AllStand rows es
 
 -- the runs of an item give its properties
-abbrev pub Reaches : List Placed → List ℕ → ℕ → List Run → Placed → Type 0
-Reaches ps members place runs root = (x : ℕ) → Contains (gathered members runs place) x ↔ Contains (places (properties_in ps root)) x
+abbrev pub GivesProperties : List Placed → List ℕ → ℕ → List Run → Placed → Type 0
+GivesProperties ps members place runs root = (x : ℕ) → Contains (gathered members runs place) x ↔ Contains (row_places (properties_in ps root)) x
 
 -- what stands beside a row is that of its element
-pub record Fits (words : Chars) (ps : List Placed) (members : List ℕ) (place : ℕ) (row : Row) (p : Placed) (x : BesideRow) : Type 0 where
+pub record FitsRow (words : Chars) (ps : List Placed) (members : List ℕ) (place : ℕ) (row : Row) (p : Placed) (x : BesideRow) : Type 0 where
   pub names : AreTokens words (names_in row.head.words) (names_beside x) (names_of p)
   pub types : AreTokens words (types_in row.head.words) (types_beside x) p.facts.types
-  pub reach : is_item p ≡ true → Reaches ps members place (runs_beside x) p
+  pub reach : is_item p ≡ true → GivesProperties ps members place (runs_beside x) p
 
 -- so are those of the first so many rows
-pub record AllFit (words : Chars) (ps : List Placed) (members : List ℕ) (rows : List Row) (count : ℕ) (extras : List BesideRow) : Type 0 where
+pub record FirstRowsFit (words : Chars) (ps : List Placed) (members : List ℕ) (rows : List Row) (count : ℕ) (extras : List BesideRow) : Type 0 where
   pub size : length extras ≡ count
   pub fit : (i : ℕ) (row : Row) (p : Placed) (x : BesideRow) → slice_get rows i ≡ Some row → slice_get ps i ≡ Some p → slice_get extras i ≡ Some x
-      → Fits words ps members i row p x
+      → FitsRow words ps members i row p x
 
 -- so are those of all rows
 abbrev pub EachFits : Chars → List Placed → List ℕ → List Row → List BesideRow → Type 0
-EachFits words ps members rows extras = AllFit words ps members rows (length rows) extras
+EachFits words ps members rows extras = FirstRowsFit words ps members rows (length rows) extras
 
 pub record HoldsRows (kept : Kept) (rows : List Placed) (base : Chars) : Type 0 where
   pub shown : ShowsRows kept.words kept.text kept.times.items kept.rows.items rows
   pub base_is : kept.base ≡ base
-  pub numbered : Numbered 0 rows
+  pub numbered : RowsAreNumbered 0 rows
   pub extras : EachFits kept.words rows kept.members.items kept.rows.items kept.extras.items
 
 -- what is so of the rows that are held, and of their base
@@ -142,7 +142,7 @@ KeepsPage page base result =
 -- an element is that of the row at a place, and its runs give its properties
 pub record IsElement (kept : Kept) (rows : List Placed) (place : ℕ) (e : Element) (p : Placed) : Type 0 where
   pub shown : ShowsElement kept.words kept.text kept.times.items e p
-  pub reached : is_item p ≡ true → Reaches rows kept.members.items place (e.own ∷ e.others.now) p
+  pub reached : is_item p ≡ true → GivesProperties rows kept.members.items place (e.own ∷ e.others.now) p
 
 -- whether there is one of which the test holds
 abbrev pub is_there : (Placed → Bool) → Option Placed → Bool

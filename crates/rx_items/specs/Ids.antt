@@ -8,12 +8,12 @@ use Rattle.rx_items.specs.declared.rows.Row.{Row}
 use Rattle.rx_items.specs.declared.spans.Span.{Span}
 
 -- the place under a text of these bytes
-abbrev pub place_of : BTreeMap (Bor (List ℕ)) ℕ → List ℕ → Option ℕ
-place_of ids text = get_by (λ id. slice_cmp nat_cmp text id.now) ids
+abbrev pub id_place : BTreeMap (Bor (List ℕ)) ℕ → List ℕ → Option ℕ
+id_place ids text = get_by (λ id. slice_cmp nat_cmp text id.now) ids
 
 -- the map tells the place of each id
 abbrev pub Looks : BTreeMap (Bor (List ℕ)) ℕ → (Chars → Option ℕ) → Type 0
-Looks ids look = (text : List ℕ) → IsUtf8 text → place_of ids text ≡ look (chars text)
+Looks ids look = (text : List ℕ) → IsUtf8 text → id_place ids text ≡ look (chars text)
 
 -- what is so of each look-up that the map answers for
 abbrev pub OfIds : BTreeMap (Bor (List ℕ)) ℕ → ((Chars → Option ℕ) → Type 0) → Type 0
@@ -23,8 +23,8 @@ OfIds ids Holds = (look : Chars → Option ℕ) → Looks ids look → Holds loo
 abbrev pub LooksWhere : Option Span → BTreeMap (Bor (List ℕ)) ℕ → (Chars → Option ℕ) → Type 0
 LooksWhere references ids look = (span : Span) → references ≡ Some span → Looks ids look
 
-abbrev pub has_references : Row → Bool
-has_references row = row.head.words.has_references
+abbrev pub has_itemref : Row → Bool
+has_itemref row = row.head.words.has_references
 
 -- it does where some row has references
 abbrev pub LooksFor : List Row → BTreeMap (Bor (List ℕ)) ℕ → (Chars → Option ℕ) → Type 0
@@ -37,7 +37,7 @@ look_in ps token = option_map (λ (p : Placed). p.place) (first_with_id ps token
 -- a row's id, where it has one, tells this place from now on
 abbrev pub IsNoted : BTreeMap (Bor (List ℕ)) ℕ → Option Chars → ℕ → BTreeMap (Bor (List ℕ)) ℕ → Type 0
 IsNoted old word place new =
-    (text : List ℕ) → IsUtf8 text → place_of new text ≡ (if is_same_id (chars text) word then Some place else place_of old text)
+    (text : List ℕ) → IsUtf8 text → id_place new text ≡ (if is_same_id (chars text) word then Some place else id_place old text)
 
 -- these places are those of the ids among a text's tokens
 abbrev pub AreReferred : (Chars → Option ℕ) → Chars → List ℕ → Type 0

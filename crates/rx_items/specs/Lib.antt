@@ -6,7 +6,6 @@ pub mod Named
 pub mod Pages
 pub mod Walks
 pub mod JsonLaws
-pub mod Distinct
 pub mod Properties
 pub mod Held
 pub mod Ids

@@ -12,16 +12,16 @@ scope_number None = 0
 scope_number (Some place) = place + 1
 
 -- the number by which members stand in order; places are below the factor
-abbrev pub key_of : Option ℕ → ℕ → ℕ
-key_of scope place = scope_number scope * 18446744073709551615 + place
+abbrev pub member_key : Option ℕ → ℕ → ℕ
+member_key scope place = scope_number scope * 18446744073709551615 + place
 
 abbrev pub scope_of : Option Row → Option ℕ
 scope_of None = None
 scope_of (Some row) = row.scope
 
 -- that of the row at a place
-abbrev pub key_at : List Row → ℕ → ℕ
-key_at rows place = key_of (scope_of (slice_get rows place)) place
+abbrev pub row_key : List Row → ℕ → ℕ
+row_key rows place = member_key (scope_of (slice_get rows place)) place
 
 -- a row with a name stands at a place
 pub record IsNamed (rows : List Row) (place : ℕ) : Type 0 where
@@ -35,43 +35,43 @@ AreMembers rows members = (place : ℕ) → Contains members place ↔ IsNamed r
 
 -- they stand in order
 abbrev pub Rises : List Row → List ℕ → Type 0
-Rises rows members = IsNonDecreasingBy (key_at rows) members
+Rises rows members = IsNonDecreasingBy (row_key rows) members
 
 -- the place behind a row and, where it is an item, behind all that is inside it
 abbrev pub next_place : Row → ℕ → ℕ
 next_place row place = if row.head.is_item && nat_lt place row.past then row.past else place + 1
 
 abbrev pub AllBelow : List Row → List ℕ → ℕ → Type 0
-AllBelow rows members bound = (place : ℕ) → Contains members place → key_at rows place < bound
+AllBelow rows members bound = (place : ℕ) → Contains members place → row_key rows place < bound
 
 -- members are added: those from one place to another of which this is the nearest item around, all below the last place
-pub record Adds (rows : List Row) (scope : Option ℕ) (from to last : ℕ) (old new : List ℕ) : Type 0 where
+pub record AddsMembers (rows : List Row) (scope : Option ℕ) (from to last : ℕ) (old new : List ℕ) : Type 0 where
   pub kept : (place : ℕ) → Contains old place → Contains new place
   pub only : (place : ℕ) → Contains new place → Contains old place ⊎ IsNamed rows place
   pub all : Lies rows → scope_number scope ≤ from
       → (place : ℕ) (row : Row) → from ≤ place → place < to → slice_get rows place ≡ Some row → row.head.named ≡ true → row.scope ≡ scope → Contains new place
-  pub rises : Rises rows old → AllBelow rows old (key_of scope from) → Rises rows new × AllBelow rows new (key_of scope last)
+  pub rises : Rises rows old → AllBelow rows old (member_key scope from) → Rises rows new × AllBelow rows new (member_key scope last)
 
 -- so are those inside the row at a place, where it is an item
 pub record AddsItem (rows : List Row) (item : ℕ) (old new : List ℕ) : Type 0 where
   pub kept : (place : ℕ) → Contains old place → Contains new place
   pub only : (place : ℕ) → Contains new place → Contains old place ⊎ IsNamed rows place
   pub all : Lies rows → (place : ℕ) (row : Row) → slice_get rows place ≡ Some row → row.head.named ≡ true → row.scope ≡ Some item → Contains new place
-  pub rises : Rises rows old → AllBelow rows old (key_of (Some item) 0) → Rises rows new × AllBelow rows new (key_of (Some (suc item)) 0)
+  pub rises : Rises rows old → AllBelow rows old (member_key (Some item) 0) → Rises rows new × AllBelow rows new (member_key (Some (suc item)) 0)
 
 -- the first members, so many, are below a bound
 abbrev pub FirstBelow : List Row → List ℕ → ℕ → ℕ → Type 0
-FirstBelow rows members bound count = (count ≤ length members) × AllWithin (λ place. nat_lt (key_at rows place) bound ≡ true) members 0 count
+FirstBelow rows members bound count = (count ≤ length members) × AllWithin (λ place. nat_lt (row_key rows place) bound ≡ true) members 0 count
 
 -- so many members are below a bound, and stand first
 abbrev pub AreBelow : List Row → List ℕ → ℕ → ℕ → Type 0
 AreBelow rows members bound count =
-    IsPartitionPoint (λ place. nat_lt (key_at rows place) bound ≡ true) (λ place. nat_lt (key_at rows place) bound ≡ false) members count
+    IsPartitionPoint (λ place. nat_lt (row_key rows place) bound ≡ true) (λ place. nat_lt (row_key rows place) bound ≡ false) members count
 
 -- a run from one place to another
 pub record RunOf (rows : List Row) (members : List ℕ) (scope : Option ℕ) (from to : ℕ) (run : Run) : Type 0 where
-  pub begins : AreBelow rows members (key_of scope from) run.from
-  pub ends : AreBelow rows members (key_of scope to) run.to
+  pub begins : AreBelow rows members (member_key scope from) run.from
+  pub ends : AreBelow rows members (member_key scope to) run.to
   pub from_small : from ≤ 18446744073709551615
   pub to_small : to ≤ 18446744073709551615
 

@@ -7,7 +7,7 @@ use Rattle.serde.specs.declared.name.Case.TheVariants.{AsIs}
 use Rattle.serde_json.specs.Data.{Data, Members, null, no_members, object}
 use Rattle.rx_json.specs.Events.{data_events}
 use Rattle.rx_microdata.specs.Elements.{Placed, is_item, names_of}
-use Rattle.rx_microdata.specs.Json.{json_of_item, with_value}
+use Rattle.rx_microdata.specs.Json.{json_of_item, with_member}
 use Rattle.rx_items.specs.Rows.{properties_in}
 use Rattle.rx_items.specs.Held.{HoldsRows, IsElement, is_there}
 use Rattle.rx_items.specs.declared.kept.Element.{Element}
@@ -22,15 +22,15 @@ Key = List ℕ × ℕ
 abbrev pub keyed : List ℕ → ℕ → Key
 keyed name place = (name, place)
 
-abbrev pub key_at : ℕ → Chars → Key
-key_at place name = keyed (encode_utf8_all name) place
+abbrev pub name_key : ℕ → Chars → Key
+name_key place name = keyed (encode_utf8_all name) place
 
 -- a property under each of its names
 abbrev pub keys_of : Placed → List Key
-keys_of e = map (key_at e.place) (names_of e)
+keys_of e = map (name_key e.place) (names_of e)
 
-abbrev pub keys_in : List Placed → List Key
-keys_in es = flat_map keys_of es
+abbrev pub name_keys : List Placed → List Key
+name_keys es = flat_map keys_of es
 
 -- the same of the row at a place
 abbrev pub keys_if : Option Placed → List Key
@@ -46,15 +46,15 @@ key_seen named = keyed named.name.now named.place
 abbrev pub keys_seen : List Named → List Key
 keys_seen list = map key_seen list
 
-abbrev pub is_before : Named → Named → Bool
-is_before a b = is_lt (slice_cmp nat_cmp a.name.now b.name.now)
+abbrev pub is_name_before : Named → Named → Bool
+is_name_before a b = is_lt (slice_cmp nat_cmp a.name.now b.name.now)
 
 -- these keys in byte order of their names, and those of one name in the order that they had
 pub record ByName (keys : List Key) (list : List Named) : Type 0 where
   pub found : List Named
   pub are : keys_seen found ≡ keys
-  pub rise : IsSortedBy is_before list
-  pub keep : IsStableBy is_before found list
+  pub rise : IsSortedBy is_name_before list
+  pub keep : IsStableBy is_name_before found list
 
 abbrev pub name_seen : Option (Bor (List ℕ)) → Option (List ℕ)
 name_seen name = option_map (λ n. n.now) name
@@ -65,9 +65,9 @@ abbrev pub opening : Option (List ℕ) → List ℕ → List Event
 opening None name = event.field_key name AsIs ∷ event.seq_begins None ∷ []
 opening (Some before) name = if bytes_eq before name then [] else event.seq_ends ∷ event.field_key name AsIs ∷ event.seq_begins None ∷ []
 
-abbrev pub ending : Option (List ℕ) → List Event
-ending None = []
-ending (Some before) = event.seq_ends ∷ []
+abbrev pub ending_events : Option (List ℕ) → List Event
+ending_events None = []
+ending_events (Some before) = event.seq_ends ∷ []
 
 -- what is so of the row at a place
 abbrev pub OfRow : Kept → ℕ → (List Placed → Chars → Placed → Type 0) → Type 0
@@ -95,7 +95,7 @@ module _ (rows : List Placed) (base : Chars) (left : ℕ) where
   -- each name with the list of its values
   abbrev pub grouped_at : List Key → Members
   grouped_at [] = no_members
-  grouped_at (key ∷ keys) = with_value key.0 (value_at key.1) (grouped_at keys)
+  grouped_at (key ∷ keys) = with_member key.0 (value_at key.1) (grouped_at keys)
 
   -- an item in which so many may nest, itself included
   abbrev pub item_data : Placed → Data
@@ -103,7 +103,7 @@ module _ (rows : List Placed) (base : Chars) (left : ℕ) where
 
   -- its properties
   abbrev pub properties_data : Placed → Data
-  properties_data root = object (grouped_at (keys_in (properties_in rows root)))
+  properties_data root = object (grouped_at (name_keys (properties_in rows root)))
 
   -- the events of a value, behind the values of the name before
   abbrev pub value_behind : Option (List ℕ) → Key → List Event
@@ -111,5 +111,5 @@ module _ (rows : List Placed) (base : Chars) (left : ℕ) where
 
   -- the events of values one behind another, behind the values of the name before
   abbrev pub events_behind : Option (List ℕ) → List Key → List Event
-  events_behind before [] = ending before
+  events_behind before [] = ending_events before
   events_behind before (key ∷ keys) = opening before key.0 ++ (data_events (value_at key.1) ++ events_behind (Some key.0) keys)

@@ -7,7 +7,7 @@ use Rattle.rx_microdata.specs.Properties.{is_any}
 use Rattle.rx_items.specs.Rows.{rows_of}
 use Rattle.rx_items.specs.Spans.{IsRun}
 use Rattle.rx_items.specs.Words.{id_in, item_id_in, names_in, references_in, types_in}
-use Rattle.rx_items.specs.Growing.{Growing, begun, said, finished}
+use Rattle.rx_items.specs.Growing.{Growing, element_begun, text_gathered, element_ended}
 use Rattle.rx_items.specs.declared.spans.Span.{Span}
 use Rattle.rx_items.specs.declared.rows.Row.{Row}
 use Rattle.rx_items.specs.declared.rows.RowValue.{RowValue}
@@ -66,12 +66,12 @@ tag_in t = record { closing = false; name = t.name; attributes = t.attributes; s
 -- the events of some nodes
 abbrev pub after : Growing → Tree → Growing
 after g end = g
-after g (element t inner more) = after (finished (after (begun g (tag_in t) t.token t.at) inner)) more
-after g (text chars more) = after (said g chars) more
+after g (element t inner more) = after (element_ended (after (element_begun g (tag_in t) t.token t.at) inner)) more
+after g (text chars more) = after (text_gathered g chars) more
 
-abbrev pub nothing_read : Growing
-nothing_read = record { rows = []; line = []; words = []; text = []; times = [] }
+abbrev pub nothing_grown : Growing
+nothing_grown = record { rows = []; line = []; words = []; text = []; times = [] }
 
 -- law: of a page's tree the table has the rows, and no element is open
 abbrev pub TablesShow : Type 0
-TablesShow = (tree : Tree) → let g : Growing = after nothing_read tree in (g.line ≡ []) × ShowsRows g.words g.text g.times g.rows (rows_of tree)
+TablesShow = (tree : Tree) → let g : Growing = after nothing_grown tree in (g.line ≡ []) × ShowsRows g.words g.text g.times g.rows (rows_of tree)

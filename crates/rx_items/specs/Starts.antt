@@ -15,7 +15,7 @@ abbrev pub reach_end : Row → ℕ → ℕ
 reach_end row place = if row.head.is_item then place + 1 else row.past
 
 -- a row with a name that a start reaches
-pub record Reached (ps : List Placed) (start : Placed) (x : ℕ) : Type 0 where
+pub record ReachesRow (ps : List Placed) (start : Placed) (x : ℕ) : Type 0 where
   pub row : Placed
   pub is : slice_get ps x ≡ Some row
   pub named : is_any (names_of row) ≡ true
@@ -34,7 +34,7 @@ pub record FromStart (ps : List Placed) (starts : List ℕ) (x : ℕ) : Type 0 w
   pub start : Placed
   pub among : Contains starts place
   pub there : slice_get ps place ≡ Some start
-  pub reached : Reached ps start x
+  pub reached : ReachesRow ps start x
 
 abbrev pub RunsReach : List Placed → ℕ → List ℕ → ℕ → Type 0
 RunsReach ps place starts x = FromChildren ps place x ⊎ FromStart ps starts x

@@ -8,29 +8,29 @@ use Rattle.rx_items.specs.declared.spans.Span.{Span}
 use Rattle.rx_items.specs.declared.values.Taken.{Taken}
 use Rattle.rx_items.specs.declared.values.Taken.TheVariants as taken
 
-abbrev pub written : Option Span → Taken
-written None = taken.Empty
-written (Some span) = taken.Written span
+abbrev pub written_span : Option Span → Taken
+written_span None = taken.Empty
+written_span (Some span) = taken.Written span
 
-abbrev pub referred : Option Span → Taken
-referred None = taken.Empty
-referred (Some span) = taken.Reference span
+abbrev pub referred_span : Option Span → Taken
+referred_span None = taken.Empty
+referred_span (Some span) = taken.Reference span
 
 abbrev pub own_unless : Option Span → Taken
 own_unless None = taken.ChildText
 own_unless (Some span) = taken.Written span
 
 -- whether a tag gives a property name
-abbrev pub is_named : List Attribute → Bool
-is_named attributes = is_any (tokens (unwrap_or (value_of attributes (codes "itemprop")) []))
+abbrev pub has_itemprop : List Attribute → Bool
+has_itemprop attributes = is_any (tokens (unwrap_or (value_of attributes (codes "itemprop")) []))
 
 -- a property that is no item
 abbrev pub is_asked : List Attribute → Bool
-is_asked attributes = not (is_some (value_of attributes (codes "itemscope"))) && is_named attributes
+is_asked attributes = not (is_some (value_of attributes (codes "itemscope"))) && has_itemprop attributes
 
 abbrev pub taken_by : Source → Chars → List Attribute → Taken
-taken_by (AsWritten name) text attributes = written (word_span text (value_of attributes name))
-taken_by (AsReference name) text attributes = referred (word_span text (value_of attributes name))
+taken_by (AsWritten name) text attributes = written_span (word_span text (value_of attributes name))
+taken_by (AsReference name) text attributes = referred_span (word_span text (value_of attributes name))
 taken_by (OrOwnText name) text attributes = own_unless (word_span text (value_of attributes name))
 taken_by AllText text attributes = taken.Text
 

@@ -4,16 +4,16 @@ use Rattle.rx_rdfa.specs.Common.{Chars, Stop}
 use Rattle.rx_microdata.specs.Elements.{Placed, is_item}
 use Rattle.rx_microdata.specs.Visits.{Visit, visits_from}
 use Rattle.rx_items.specs.Rows.{properties_in}
-use Rattle.rx_items.specs.Held.{AllStand, IsElement, places}
+use Rattle.rx_items.specs.Held.{AllStand, IsElement, row_places}
 use Rattle.rx_items.specs.declared.kept.Element.{Element}
 use Rattle.rx_items.specs.declared.kept.Kept.{Kept}
-use Rattle.rx_items.specs.Expanding.{At, Finds, again, steps_in, steps_of, visits_in}
+use Rattle.rx_items.specs.Expanding.{GivesUnlessFault, HeldOnPath, again, steps_in, steps_of, visits_in}
 use Rattle.rx_items.specs.declared.visits.Trail.{Trail}
 
 -- what is so of the row at a place, whatever path the trail has walked
 abbrev pub AtRow : Kept → Trail → ℕ → (List Placed → Chars → Visit → ℕ → Placed → Type 0) → Type 0
 AtRow kept trail place Holds =
-    (rows : List Placed) (base : Chars) (above : Visit) (left : ℕ) (e : Placed) → At kept rows base trail.path.items above left
+    (rows : List Placed) (base : Chars) (above : Visit) (left : ℕ) (e : Placed) → HeldOnPath kept rows base trail.path.items above left
     → slice_get rows place ≡ Some e → Holds rows base above left e
 
 -- the same of a row that this element is
@@ -29,8 +29,8 @@ AtItem kept trail place element Holds =
 -- the same of several rows, which stand at these places
 abbrev pub AtRows : Kept → Trail → List ℕ → (List Placed → Chars → Visit → ℕ → List Placed → Type 0) → Type 0
 AtRows kept trail list Holds =
-    (rows : List Placed) (base : Chars) (above : Visit) (left : ℕ) (es : List Placed) → At kept rows base trail.path.items above left
-    → list ≡ places es → AllStand rows es → Holds rows base above left es
+    (rows : List Placed) (base : Chars) (above : Visit) (left : ℕ) (es : List Placed) → HeldOnPath kept rows base trail.path.items above left
+    → list ≡ row_places es → AllStand rows es → Holds rows base above left es
 
 module _ (rows : List Placed) (base : Chars) (above : Visit) (left : ℕ) where
   -- the visits that begin with this item
@@ -54,6 +54,6 @@ abbrev pub visits_again : ℕ → List Placed → Chars → Visit → ℕ → Pl
 visits_again times rows base above left root = again times (visits_to rows base above left root)
 
 -- these visits are made, or the first fault is told
-abbrev pub Passes : {X : Type 0} → Trail → (List Placed → Chars → Visit → ℕ → X → List Visit) → Trail → Result (Unit {0}) Stop
+abbrev pub PassesVisits : {X : Type 0} → Trail → (List Placed → Chars → Visit → ℕ → X → List Visit) → Trail → Result (Unit {0}) Stop
     → List Placed → Chars → Visit → ℕ → X → Type 0
-Passes old visits new result rows base above left x = Finds old.visits (visits rows base above left x) new.visits (λ done. ⊤) result
+PassesVisits old visits new result rows base above left x = GivesUnlessFault old.visits (visits rows base above left x) new.visits (λ done. ⊤) result

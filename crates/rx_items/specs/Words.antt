@@ -1,10 +1,10 @@
 -- What is kept of a tag's attributes.
 use Rattle.std.specs.Prelude.{◌≡◌, ℕ, Bool, ◌||◌, List, ◌++◌, Option, Some, None, is_some, codes, if◌then◌else◌}
 use Rattle.rx_grammar.specs.Common.{Chars, seen_slice, Attribute, value_of}
-use Rattle.rx_items.specs.Spans.{mark_of, span_of}
+use Rattle.rx_items.specs.Spans.{byte_count, span_of}
 use Rattle.rx_items.specs.declared.spans.Span.{Span}
 use Rattle.rx_items.specs.declared.rows.Words.{Words}
-use Rattle.rx_items.specs.declared.words.Kept.{Kept}
+use Rattle.rx_items.specs.declared.words.KeptWord.{KeptWord}
 use Rattle.rx_items.specs.declared.words.Marks.{Marks}
 
 -- the text behind a value that is kept, where there is one
@@ -43,17 +43,17 @@ after_item_id text attributes = word_text (after_types text attributes) (value_o
 abbrev pub text_of_words : Chars → List Attribute → Chars
 text_of_words text attributes = word_text (after_item_id text attributes) (value_of attributes (codes "itemref"))
 
-abbrev pub kept_of : Chars → Option Chars → Kept
-kept_of text value = record { is_there = is_some value; end = mark_of (word_text text value) }
+abbrev pub word_kept : Chars → Option Chars → KeptWord
+word_kept text value = record { is_there = is_some value; end = byte_count (word_text text value) }
 
 abbrev pub words_of : Chars → List Attribute → Words
 words_of text attributes = record {
-  from = mark_of text;
-  names_end = mark_of (after_names text attributes);
-  id_end = mark_of (after_id text attributes);
-  types_end = mark_of (after_types text attributes);
-  item_id_end = mark_of (after_item_id text attributes);
-  references_end = mark_of (text_of_words text attributes);
+  from = byte_count text;
+  names_end = byte_count (after_names text attributes);
+  id_end = byte_count (after_id text attributes);
+  types_end = byte_count (after_types text attributes);
+  item_id_end = byte_count (after_item_id text attributes);
+  references_end = byte_count (text_of_words text attributes);
   has_names = is_some (value_of attributes (codes "itemprop"));
   has_id = is_some (value_of attributes (codes "id"));
   has_types = is_some (value_of attributes (codes "itemtype"));

@@ -6,9 +6,10 @@ ghost use Rattle.rx_nest.specs.Nests.{tag_shown};
 ghost use Rattle.rx_nest.specs.Signs.{begun, said, finished};
 ghost use Rattle.rx_nest.specs.Ways.{none_refuses};
 ghost use Rattle.rx_base.specs.Seekings.{known, seek_begun, seek_finished};
-ghost use Rattle.rx_base.specs.Tags.{tag_of};
-ghost use Rattle.rx_items.specs.Collecting.{BaseIs, BaseMoves, Collects, CollectsMore, Setting, way_of};
-ghost use Rattle.rx_items.specs.Growing.{IsIdle};
+ghost use Rattle.rx_tags.specs.Seen.{tag_seen};
+ghost use Rattle.rx_rdfa.specs.Pages.{token_tag};
+ghost use Rattle.rx_items.specs.Collecting.{BaseIs, BaseMoves, Collects, CollectsMore, MicrodataSetting, microdata_way};
+ghost use Rattle.rx_items.specs.Growing.{GathersNoText};
 
 use crate::tables::Table;
 use rx_base::{BaseSearchStep, Sought, base};
@@ -35,7 +36,7 @@ pub(crate) struct Collector {
 impl Collector {
     /// Before the first element of a page at this address.
     pub(crate) fn new(alloc: Global, address: Iri) -> Collector
-        ensures { (setting : Setting) → setting.address ≡ address → Collects setting result [] }
+        ensures { (setting : MicrodataSetting) → setting.address ≡ address → Collects setting result [] }
     {
         Collector {
             alloc,
@@ -61,7 +62,7 @@ impl Collector {
 
     fn text(&mut self, text: &str) -> Result<(), Stop>
         ensures hears { CollectsMore self.old (map said (chars text.now)) result self.new }
-        ensures quiet { IsIdle self.old.table → IsOk result × IsIdle self.new.table }
+        ensures quiet { GathersNoText self.old.table → IsOk result × GathersNoText self.new.table }
     {
         self.table.text(text)?;
         Ok(())
@@ -89,7 +90,7 @@ fn begin_base(
     count: usize,
     tag: &Tag<'_>,
 ) -> Result<(), NoMemory>
-    ensures { OnOk result (BaseMoves address.now (λ seeking. seek_begun count seeking (tag_of tag.now)) base.old base.new) }
+    ensures { OnOk result (BaseMoves address.now (λ seeking. seek_begun count seeking (token_tag (tag_seen tag.now))) base.old base.new) }
 {
     let Base::Sought(sought) = base else {
         return Ok(());
@@ -127,13 +128,13 @@ fn known_base(alloc: Global, address: &Iri, href: Option<&str>) -> Result<Base, 
 }
 
 impl Listener for Collector {
-    ghost Setting = { Setting };
+    ghost Setting = { MicrodataSetting };
 
-    ghost way = { way_of };
+    ghost way = { microdata_way };
 
     ghost knows = { Collects };
 
-    ghost idle = { λ collector. IsIdle collector.table };
+    ghost idle = { λ collector. GathersNoText collector.table };
 
     #[inline]
     fn hear(&mut self, event: Event<'_>) -> Result<(), Stop> {

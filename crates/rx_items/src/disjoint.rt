@@ -1,7 +1,7 @@
 //! Runs of members that share none, so that each member is looked at once, however starts lie in each other.
 ghost use Rattle.std.specs.Prelude.{◌≡◌, ◌++◌, IfOk, OnOk};
 ghost use Rattle.std.specs.List.Sorted.{IsNonDecreasingBy, IsPermutation};
-ghost use Rattle.rx_items.specs.Disjoint.{end_of, rest_of, unshared};
+ghost use Rattle.rx_items.specs.Disjoint.{end_with_run, rest_of, unshared};
 ghost use Rattle.rx_items.specs.declared.kept.Run.{Run};
 
 use crate::kept::Run;
@@ -30,7 +30,7 @@ pub(crate) fn disjoint(alloc: Global, runs: &[Run]) -> Result<Vec<Run>, NoMemory
 
 /// Adds what of a run is behind this place, where there is any, and tells where the runs end now.
 fn add_rest(list: &mut Vec<Run>, run: Run, end: usize) -> Result<usize, NoMemory>
-    ensures end { IfOk result (λ now. now ≡ end_of end run) }
+    ensures end { IfOk result (λ now. now ≡ end_with_run end run) }
     ensures added { OnOk result (list.new.items ≡ list.old.items ++ rest_of end run) }
 {
     let from = run.from.max(end);

@@ -3,8 +3,8 @@ ghost use Rattle.std.specs.Prelude.{◌≡◌, ℕ, List, [], ◌∷◌, ◌++�
 ghost use Rattle.rx_grammar.specs.Common.{list_all, chars, Chars, tokens, same};
 ghost use Rattle.rx_microdata.specs.Facts.{distinct_tokens};
 ghost use Rattle.rx_items.specs.Showing.{ShowsPart};
-ghost use Rattle.rx_items.specs.Distinct.{has_text};
 ghost use Rattle.rx_items.specs.Held.{AreTokens, texts_in};
+ghost use Rattle.rx_tags.specs.Repeats.{has_text};
 
 use crate::spans::{Span, text_of};
 use rx_terms::{NoMemory, Text};

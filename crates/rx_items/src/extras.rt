@@ -1,7 +1,7 @@
 //! What elements have beside their rows.
 ghost use Rattle.std.specs.Prelude.{◌≡◌, ◌<◌, ◌++◌, ◌∷◌, [], None, Some, true, length, IfOk, OnOk};
 ghost use Rattle.rx_items.specs.Words.{names_in, references_in, types_in};
-ghost use Rattle.rx_items.specs.Built.{Builds, OfPage};
+ghost use Rattle.rx_items.specs.Built.{Builds, HoldsOfRows};
 ghost use Rattle.rx_items.specs.Held.{EachFits, MakesTokens, NeedsNoList, names_beside, runs_beside, texts_in, types_beside};
 ghost use Rattle.rx_items.specs.Members.{Rises, RunOf};
 
@@ -25,7 +25,7 @@ pub(crate) fn extras_of(
     members: &[usize],
     ids: &BTreeMap<&str, usize>,
 ) -> Result<Vec<BesideRow>, NoMemory>
-    ensures { OfPage words.now rows.now members.now ids.now (λ ps. IfOk result (λ extras. EachFits words.now ps members.now rows.now extras.items)) }
+    ensures { HoldsOfRows words.now rows.now members.now ids.now (λ ps. IfOk result (λ extras. EachFits words.now ps members.now rows.now extras.items)) }
 {
     let mut extras = Vec::with_capacity(alloc, rows.len())?;
     // The members of items stand in the order of the items, so those of one mostly begin where those of the last one end.
@@ -69,7 +69,7 @@ fn extra_of(
     hint: usize,
 ) -> Result<BesideRow, NoMemory>
     requires { place < length rows.now }
-    ensures { OfPage words.now rows.now members.now ids.now (λ ps. IfOk result (λ extra. Builds words.now ps members.now rows.now place extra)) }
+    ensures { HoldsOfRows words.now rows.now members.now ids.now (λ ps. IfOk result (λ extra. Builds words.now ps members.now rows.now place extra)) }
 {
     let row = &rows[place];
     if is_plain(words, row) {
@@ -111,7 +111,7 @@ fn rare_extra(
     place: usize,
 ) -> Result<BesideRow, NoMemory>
     requires { place < length rows.now }
-    ensures { OfPage words.now rows.now members.now ids.now (λ ps. IfOk result (λ extra. Builds words.now ps members.now rows.now place extra)) }
+    ensures { HoldsOfRows words.now rows.now members.now ids.now (λ ps. IfOk result (λ extra. Builds words.now ps members.now rows.now place extra)) }
 {
     let row = &rows[place];
     if !row.head.is_item {

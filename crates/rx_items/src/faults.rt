@@ -1,9 +1,9 @@
 //! The first faulty visit of a page's items. No JSON is made.
 ghost use Rattle.std.specs.Prelude.{◌≡◌, ⊤, OnOk};
 ghost use Rattle.rx_items.specs.Held.{OfRows};
-ghost use Rattle.rx_items.specs.Expanding.{Finds, count_of};
+ghost use Rattle.rx_items.specs.Expanding.{GivesUnlessFault, token_count};
 ghost use Rattle.rx_items.specs.Pages.{AtTop, VisitsGive, top_visits};
-ghost use Rattle.rx_items.specs.Visiting.{AtItem, AtRow, AtRows, Passes, visits_again, visits_among, visits_below, visits_by_name, visits_to};
+ghost use Rattle.rx_items.specs.Visiting.{AtItem, AtRow, AtRows, PassesVisits, visits_again, visits_among, visits_below, visits_by_name, visits_to};
 
 use crate::elements::{element_at, is_item_at, is_top_at};
 use crate::gathering::{listed, properties};
@@ -29,7 +29,7 @@ pub(crate) fn visit_all(alloc: Global, kept: &Kept) -> Result<(), Stop>
 /// Visits an element where it is a top-level item.
 fn pass_top(alloc: Global, kept: &Kept, trail: &mut Trail, place: usize) -> Result<(), Stop>
     ensures path { OnOk result (trail.new.path.items ≡ trail.old.path.items) }
-    ensures finds { AtTop kept.now trail.old place (λ rows base e. Finds trail.old.visits (top_visits rows base e) trail.new.visits (λ done. ⊤) result) }
+    ensures finds { AtTop kept.now trail.old place (λ rows base e. GivesUnlessFault trail.old.visits (top_visits rows base e) trail.new.visits (λ done. ⊤) result) }
 {
     if !is_top_at(kept, place) {
         return Ok(());
@@ -50,7 +50,7 @@ fn pass(
     place: usize,
 ) -> Result<(), Stop>
     ensures path { OnOk result (trail.new.path.items ≡ trail.old.path.items) }
-    ensures finds { AtItem kept.now trail.old place element.now (Passes trail.old visits_to trail.new result) }
+    ensures finds { AtItem kept.now trail.old place element.now (PassesVisits trail.old visits_to trail.new result) }
 {
     enter(trail, element, place)?;
     pass_item(alloc, kept, trail, element, place)?;
@@ -68,7 +68,7 @@ fn pass_item(
     place: usize,
 ) -> Result<(), Stop>
     ensures path { OnOk result (trail.new.path.items ≡ trail.old.path.items) }
-    ensures finds { AtItem kept.now trail.old place element.now (Passes trail.old visits_below trail.new result) }
+    ensures finds { AtItem kept.now trail.old place element.now (PassesVisits trail.old visits_below trail.new result) }
 {
     match listed(kept.members.as_slice(), element.own, element.others, place) {
         Some(list) => pass_each(alloc, kept, trail, list),
@@ -86,7 +86,7 @@ fn pass_sorted(
     place: usize,
 ) -> Result<(), Stop>
     ensures path { OnOk result (trail.new.path.items ≡ trail.old.path.items) }
-    ensures finds { AtItem kept.now trail.old place element.now (Passes trail.old visits_below trail.new result) }
+    ensures finds { AtItem kept.now trail.old place element.now (PassesVisits trail.old visits_below trail.new result) }
 {
     let list = properties(
         alloc,
@@ -102,7 +102,7 @@ fn pass_sorted(
 #[cycle(pass)]
 fn pass_each(alloc: Global, kept: &Kept, trail: &mut Trail, list: &[usize]) -> Result<(), Stop>
     ensures path { OnOk result (trail.new.path.items ≡ trail.old.path.items) }
-    ensures finds { AtRows kept.now trail.old list.now (Passes trail.old visits_among trail.new result) }
+    ensures finds { AtRows kept.now trail.old list.now (PassesVisits trail.old visits_among trail.new result) }
 {
     for place in list {
         pass_property(alloc, kept, trail, *place)?;
@@ -114,7 +114,7 @@ fn pass_each(alloc: Global, kept: &Kept, trail: &mut Trail, list: &[usize]) -> R
 #[cycle(pass)]
 fn pass_property(alloc: Global, kept: &Kept, trail: &mut Trail, place: usize) -> Result<(), Stop>
     ensures path { OnOk result (trail.new.path.items ≡ trail.old.path.items) }
-    ensures finds { AtRow kept.now trail.old place (Passes trail.old visits_by_name trail.new result) }
+    ensures finds { AtRow kept.now trail.old place (PassesVisits trail.old visits_by_name trail.new result) }
 {
     if !is_item_at(kept, place) {
         return Ok(());
@@ -136,7 +136,7 @@ fn pass_times(
     times: usize,
 ) -> Result<(), Stop>
     ensures path { OnOk result (trail.new.path.items ≡ trail.old.path.items) }
-    ensures finds { AtItem kept.now trail.old place element.now (Passes trail.old (visits_again times) trail.new result) }
+    ensures finds { AtItem kept.now trail.old place element.now (PassesVisits trail.old (visits_again times) trail.new result) }
 {
     for _ in 0..times {
         pass(alloc, kept, trail, element, place)?;
@@ -146,7 +146,7 @@ fn pass_times(
 
 /// How many tokens an attribute has.
 fn count(tokens: &Tokens<'_>) -> usize
-    ensures { result ≡ count_of tokens.now }
+    ensures { result ≡ token_count tokens.now }
 {
     match tokens {
         Tokens::One(_span) => 1,

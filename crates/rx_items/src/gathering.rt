@@ -1,7 +1,7 @@
 //! The properties of an item.
 ghost use Rattle.std.specs.Prelude.{◌≡◌, ◌++◌, ℕ, Contains, ◌↔◌, ◌∷◌, IfOk, IfSome, OnOk, filter, take, drop};
 ghost use Rattle.rx_terms.specs.Common.{nat_cmp, IsStrictlySortedBy};
-ghost use Rattle.rx_items.specs.Properties.{part, gathered, is_other, are_listed, rise_behind, is_next};
+ghost use Rattle.rx_items.specs.Properties.{members_in, gathered, is_other, are_listed, rise_behind, follows_place};
 
 use crate::kept::Run;
 use rx_terms::NoMemory;
@@ -52,7 +52,7 @@ fn rise_behind(first: usize, list: &[usize], place: usize) -> bool
 }
 
 fn is_next(before: usize, member: usize, place: usize) -> bool
-    ensures { result ≡ is_next place before member }
+    ensures { result ≡ follows_place place before member }
 {
     before < member && member != place
 }
@@ -93,7 +93,7 @@ fn gathered(
 
 /// The members of a run.
 fn part(members: &[usize], run: Run) -> &[usize]
-    ensures { result.now ≡ part members.now run }
+    ensures { result.now ≡ members_in members.now run }
 {
     let rest = behind(members, run.from);
     &rest[..run.to.saturating_sub(run.from).min(rest.len())]

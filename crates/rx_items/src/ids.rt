@@ -3,7 +3,7 @@ ghost use Rattle.std.specs.Prelude.{◌≡◌, ℕ, List, Some, IfOk, OnOk, opti
 ghost use Rattle.rx_grammar.specs.Common.{list_any, same};
 ghost use Rattle.rx_items.specs.Built.{OfNumbered};
 ghost use Rattle.rx_items.specs.Held.{OfWord};
-ghost use Rattle.rx_items.specs.Ids.{IsNoted, Looks, LooksFor, has_references, look_in, place_of};
+ghost use Rattle.rx_items.specs.Ids.{IsNoted, Looks, LooksFor, has_itemref, id_place, look_in};
 
 use crate::rows::Row;
 use crate::spans::{Span, text_of};
@@ -28,7 +28,7 @@ pub(crate) fn ids_of<'a>(
 
 /// Whether some row has references.
 fn refer(rows: &[Row]) -> bool
-    ensures { result ≡ list_any has_references rows.now }
+    ensures { result ≡ list_any has_itemref rows.now }
 {
     for row in rows {
         if row.head.words.has_references {
@@ -69,7 +69,7 @@ fn note_id<'a>(
 }
 
 fn put_id<'a>(ids: &mut BTreeMap<&'a str, usize>, id: &'a str, place: usize) -> Result<(), NoMemory>
-    ensures { OnOk result ((text : List ℕ) → place_of ids.new text ≡ (if same id.now text then Some place else place_of ids.old text)) }
+    ensures { OnOk result ((text : List ℕ) → id_place ids.new text ≡ (if same id.now text then Some place else id_place ids.old text)) }
 {
     let _ = ids.insert(id, place)?;
     Ok(())
@@ -77,7 +77,7 @@ fn put_id<'a>(ids: &mut BTreeMap<&'a str, usize>, id: &'a str, place: usize) -> 
 
 /// The place under a token.
 pub(crate) fn place_under(ids: &BTreeMap<&str, usize>, token: &str) -> Option<usize>
-    ensures { result ≡ place_of ids.now token.now }
+    ensures { result ≡ id_place ids.now token.now }
 {
     ids.get(token).copied()
 }

@@ -1,7 +1,7 @@
 //! The places of the rows with a name, by the item around and then in tree order.
 ghost use Rattle.std.specs.Prelude.{◌≡◌, ◌<◌, ◌≤◌, ◌==◌, ◌&&◌, [], ◌∷◌, ◌++◌, Some, true, length, nat_lt, IfOk, OnOk, if◌then◌else◌};
 ghost use Rattle.rx_items.specs.Lying.{Lies};
-ghost use Rattle.rx_items.specs.Members.{Adds, AddsItem, AreBelow, AreMembers, FirstBelow, Rises, key_at, key_of, next_place, scope_number};
+ghost use Rattle.rx_items.specs.Members.{AddsItem, AddsMembers, AreBelow, AreMembers, FirstBelow, Rises, member_key, next_place, row_key, scope_number};
 
 use crate::kept::Run;
 use crate::rows::Row;
@@ -13,7 +13,7 @@ const PLACES: u128 = 0xFFFF_FFFF_FFFF_FFFF;
 
 /// The number by which members stand in order.
 fn key_of(scope: Option<usize>, place: usize) -> u128
-    ensures { result ≡ key_of scope place }
+    ensures { result ≡ member_key scope place }
 {
     scope_number(scope) * PLACES + place as u128
 }
@@ -30,7 +30,7 @@ fn scope_number(scope: Option<usize>) -> u128
 
 /// The number of the row at a place.
 fn key_at(rows: &[Row], place: usize) -> u128
-    ensures { result ≡ key_at rows.now place }
+    ensures { result ≡ row_key rows.now place }
 {
     match rows.get(place) {
         Some(row) => key_of(row.scope, place),
@@ -73,7 +73,7 @@ fn add_members(
     from: usize,
     to: usize,
 ) -> Result<(), NoMemory>
-    ensures { OnOk result (Adds rows.now scope from to 18446744073709551615 members.old.items members.new.items) }
+    ensures { OnOk result (AddsMembers rows.now scope from to 18446744073709551615 members.old.items members.new.items) }
 {
     let end = to.min(rows.len());
     let mut place = from;
@@ -156,8 +156,8 @@ pub(crate) fn between(
     from: usize,
     to: usize,
 ) -> Run
-    ensures from { Rises rows.now members.now → AreBelow rows.now members.now (key_of scope from) result.from }
-    ensures to { Rises rows.now members.now → AreBelow rows.now members.now (key_of scope to) result.to }
+    ensures from { Rises rows.now members.now → AreBelow rows.now members.now (member_key scope from) result.from }
+    ensures to { Rises rows.now members.now → AreBelow rows.now members.now (member_key scope to) result.to }
 {
     Run {
         from: before(rows, members, key_of(scope, from)),
@@ -167,8 +167,8 @@ pub(crate) fn between(
 
 /// All members with this item around, where they begin about there.
 pub(crate) fn inside_from(rows: &[Row], members: &[usize], place: usize, hint: usize) -> Run
-    ensures from { Rises rows.now members.now → AreBelow rows.now members.now (key_of (Some place) 0) result.from }
-    ensures to { Rises rows.now members.now → AreBelow rows.now members.now (key_of (Some place) (length rows.now)) result.to }
+    ensures from { Rises rows.now members.now → AreBelow rows.now members.now (member_key (Some place) 0) result.from }
+    ensures to { Rises rows.now members.now → AreBelow rows.now members.now (member_key (Some place) (length rows.now)) result.to }
 {
     let from = before_from(rows, members, key_of(Some(place), 0), hint);
     let end = key_of(Some(place), rows.len());

@@ -4,7 +4,7 @@ ghost use Rattle.std.specs.Prelude.{◌≡◌, ◌∷◌, ◌++◌, [], map, fla
 ghost use Rattle.rx_items.specs.Rows.{properties_in};
 ghost use Rattle.rx_items.specs.Showing.{ShowsPart};
 ghost use Rattle.rx_items.specs.Held.{OfRows};
-ghost use Rattle.rx_items.specs.Named.{ByName, OfItem, is_before, key_at, keyed, keys_at, keys_in, keys_seen};
+ghost use Rattle.rx_items.specs.Named.{ByName, OfItem, is_name_before, keyed, keys_at, keys_seen, name_key, name_keys};
 
 use crate::elements::names_at;
 use crate::gathering::{listed, properties};
@@ -28,7 +28,7 @@ pub(crate) fn by_name<'a>(
     element: &Element<'_>,
     place: usize,
 ) -> Result<Vec<Named<'a>>, NoMemory>
-    ensures { OfItem kept.now place element.now (λ rows base root. IfOk result (λ list. ByName (keys_in (properties_in rows root)) list.items)) }
+    ensures { OfItem kept.now place element.now (λ rows base root. IfOk result (λ list. ByName (name_keys (properties_in rows root)) list.items)) }
 {
     let mut list = in_tree_order(alloc, kept, element, place)?;
     sort(&mut list)?;
@@ -36,8 +36,8 @@ pub(crate) fn by_name<'a>(
 }
 
 fn sort(list: &mut Vec<Named<'_>>) -> Result<(), NoMemory>
-    ensures rise { OnOk result (IsSortedBy is_before list.new.items) }
-    ensures keep { OnOk result (IsStableBy is_before list.old.items list.new.items) }
+    ensures rise { OnOk result (IsSortedBy is_name_before list.new.items) }
+    ensures keep { OnOk result (IsStableBy is_name_before list.old.items list.new.items) }
 {
     list.sort_by(|a, b| a.name.cmp(b.name))?;
     Ok(())
@@ -50,7 +50,7 @@ fn in_tree_order<'a>(
     element: &Element<'_>,
     place: usize,
 ) -> Result<Vec<Named<'a>>, NoMemory>
-    ensures { OfItem kept.now place element.now (λ rows base root. IfOk result (λ list. keys_seen list.items ≡ keys_in (properties_in rows root))) }
+    ensures { OfItem kept.now place element.now (λ rows base root. IfOk result (λ list. keys_seen list.items ≡ name_keys (properties_in rows root))) }
 {
     // most items refer to no element, and then the places stand in a row already
     match listed(kept.members.as_slice(), element.own, element.others, place) {
@@ -66,7 +66,7 @@ fn named_sorted<'a>(
     element: &Element<'_>,
     place: usize,
 ) -> Result<Vec<Named<'a>>, NoMemory>
-    ensures { OfItem kept.now place element.now (λ rows base root. IfOk result (λ list. keys_seen list.items ≡ keys_in (properties_in rows root))) }
+    ensures { OfItem kept.now place element.now (λ rows base root. IfOk result (λ list. keys_seen list.items ≡ name_keys (properties_in rows root))) }
 {
     let list = properties(
         alloc,
@@ -103,7 +103,7 @@ fn add_names<'a>(list: &mut Vec<Named<'a>>, kept: &'a Kept, place: usize) -> Res
 }
 
 fn add_each<'a>(list: &mut Vec<Named<'a>>, names: &'a [Text], place: usize) -> Result<(), NoMemory>
-    ensures { OnOk result (keys_seen list.new.items ≡ keys_seen list.old.items ++ map (key_at place) names.now) }
+    ensures { OnOk result (keys_seen list.new.items ≡ keys_seen list.old.items ++ map (name_key place) names.now) }
 {
     for name in names {
         add_name(list, name.as_str(), place)?;

@@ -4,9 +4,10 @@ ghost use Rattle.rx_rdfa.specs.Common.{chars, resolved};
 ghost use Rattle.serde_json.specs.Data.{no_members};
 ghost use Rattle.rx_json.specs.Events.{Grows, data_events, each_events, members_events};
 ghost use Rattle.rx_microdata.specs.Facts.{said};
-ghost use Rattle.rx_microdata.specs.Json.{string_of, with_id, with_types};
+ghost use Rattle.rx_microdata.specs.Json.{with_id, with_types};
 ghost use Rattle.rx_items.specs.Held.{OfWord};
 ghost use Rattle.rx_items.specs.Objects.{OfTokens, OfValue};
+ghost use Rattle.rx_json.specs.Plain.{string_of};
 
 use crate::kept::{Kept, Tokens};
 use crate::rows::RowValue;

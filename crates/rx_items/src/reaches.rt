@@ -1,7 +1,7 @@
 //! The runs of members that are properties of an item.
 ghost use Rattle.std.specs.Prelude.{◌≡◌, ◌≢◌, ◌++◌, [], ◌∷◌, ℕ, List, IfOk, OnOk};
 ghost use Rattle.rx_items.specs.Disjoint.{Apart};
-ghost use Rattle.rx_items.specs.Properties.{in_runs, part};
+ghost use Rattle.rx_items.specs.Properties.{in_runs, members_in};
 ghost use Rattle.rx_items.specs.Starts.{HaveReached, OfSorted};
 
 use crate::disjoint::{disjoint, sort_by_begin};
@@ -81,7 +81,7 @@ fn runs_of(
 
 /// Adds a run where it has a member.
 fn add_run(runs: &mut Vec<Run>, run: Run) -> Result<(), NoMemory>
-    ensures { OnOk result ((members : List ℕ) → in_runs members runs.new.items ≡ in_runs members runs.old.items ++ part members run) }
+    ensures { OnOk result ((members : List ℕ) → in_runs members runs.new.items ≡ in_runs members runs.old.items ++ members_in members run) }
 {
     if run.to <= run.from {
         return Ok(());

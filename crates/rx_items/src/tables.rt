@@ -39,7 +39,7 @@ impl Model for Table {
 
 impl Table {
     ghost use Rattle.std.specs.Prelude.{[]};
-    ghost use Rattle.rx_items.specs.Growing.{innermost, passed, added, begun};
+    ghost use Rattle.rx_items.specs.Growing.{innermost, element_passed, added, element_begun};
 
     /// The table of a page of which nothing was read.
     pub(crate) fn new(alloc: Global) -> Table
@@ -70,7 +70,7 @@ impl Table {
 
     /// An element begins. Without memory the table is spent.
     pub(crate) fn begin(&mut self, alloc: Global, tag: &Tag<'_>) -> Result<(), NoMemory>
-        ensures { OnOk result (self.new ≡ begun self.old (tag_seen tag.now) tag.now.token tag.now.at) }
+        ensures { OnOk result (self.new ≡ element_begun self.old (tag_seen tag.now) tag.now.token tag.now.at) }
     {
         let marks = marks_of(tag);
         if !is_marked_by(&marks) {
@@ -83,7 +83,7 @@ impl Table {
 
     // An element that is no row.
     fn pass(&mut self) -> Result<(), NoMemory>
-        ensures { OnOk result (self.new ≡ passed self.old) }
+        ensures { OnOk result (self.new ≡ element_passed self.old) }
     {
         let around = self.innermost();
         self.line.push(Open {
@@ -123,8 +123,8 @@ impl Table {
 
 impl Table {
     ghost use Rattle.std.specs.Prelude.{Some, length, IsOk};
-    ghost use Rattle.rx_items.specs.Growing.{IsIdle, said, finished, with_own, with_said, with_end};
-    ghost use Rattle.rx_items.specs.Spans.{mark_of};
+    ghost use Rattle.rx_items.specs.Growing.{GathersNoText, text_gathered, element_ended, with_own, with_said, with_end};
+    ghost use Rattle.rx_items.specs.Spans.{byte_count};
 
     // A `time` begins whose own text is read.
     fn add_own(&mut self, alloc: Global, taken: Taken) -> Result<(), NoMemory>
@@ -151,8 +151,8 @@ impl Table {
 
     /// Text. It takes no memory where no value gathers it. Without memory the table is spent.
     pub(crate) fn text(&mut self, text: &str) -> Result<(), NoMemory>
-        ensures says { OnOk result (self.new ≡ said self.old (chars text.now)) }
-        ensures quiet { IsIdle self.old → IsOk result }
+        ensures says { OnOk result (self.new ≡ text_gathered self.old (chars text.now)) }
+        ensures quiet { GathersNoText self.old → IsOk result }
     {
         let around = self.innermost();
         if around.gathers {
@@ -176,7 +176,7 @@ impl Table {
 
     /// The innermost element ends.
     pub(crate) fn finish(&mut self)
-        ensures { self.new ≡ finished self.old }
+        ensures { self.new ≡ element_ended self.old }
     {
         let Some(last) = self.line.pop() else {
             return;
@@ -189,7 +189,7 @@ impl Table {
 
     // The element of this row ends.
     fn end(&mut self, place: usize)
-        ensures { self.new ≡ record self.old { rows = with_end (Some place) (mark_of self.old.text) self.old.rows } }
+        ensures { self.new ≡ record self.old { rows = with_end (Some place) (byte_count self.old.text) self.old.rows } }
     {
         let past = self.rows.len();
         let mark = self.text.mark();
@@ -277,7 +277,7 @@ fn inner_scope(is_item: bool, place: usize, scope: Option<usize>) -> Option<usiz
 }
 
 fn is_text(taken: Taken) -> bool
-    ensures { result ≡ growing.is_text taken }
+    ensures { result ≡ growing.takes_text taken }
 {
     matches!(taken, Taken::Text)
 }

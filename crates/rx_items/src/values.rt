@@ -4,7 +4,7 @@ ghost use Rattle.rx_terms.specs.Common.{list_all, chars, is_ascii, tokens, seen_
 ghost use Rattle.rx_microdata.specs.Facts as facts;
 ghost use Rattle.rx_microdata.specs.Properties.{is_any};
 ghost use Rattle.rx_tags.specs.Seen.{tag_seen};
-ghost use Rattle.rx_items.specs.Values.{taken_by, taken_if, text_by, text_if, written, referred, own_unless};
+ghost use Rattle.rx_items.specs.Values.{taken_by, taken_if, text_by, text_if, written_span, referred_span, own_unless};
 ghost use Rattle.rx_items.specs.Rules.{name_in, source_seen};
 
 use crate::rules::{ValueSource, source_of};
@@ -30,7 +30,7 @@ pub(crate) enum Taken {
 }
 
 fn written(span: Option<Span>) -> Taken
-    ensures { result ≡ written span }
+    ensures { result ≡ written_span span }
 {
     match span {
         Some(span) => Taken::Written(span),
@@ -39,7 +39,7 @@ fn written(span: Option<Span>) -> Taken
 }
 
 fn referred(span: Option<Span>) -> Taken
-    ensures { result ≡ referred span }
+    ensures { result ≡ referred_span span }
 {
     match span {
         Some(span) => Taken::Reference(span),

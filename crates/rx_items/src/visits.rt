@@ -1,7 +1,7 @@
 //! A visit of an item: what is wrong with it, where it begins, and where it ends.
 ghost use Rattle.std.specs.Prelude.{◌≡◌, ◌++◌, ◌∷◌, [], ℕ, List, length, ◌==◌, nat_le};
 ghost use Rattle.std.specs.List.{list_any};
-ghost use Rattle.rx_items.specs.Expanding.{Enters, kind_of};
+ghost use Rattle.rx_items.specs.Expanding.{BeginsVisit, visit_fault};
 
 use crate::kept::Element;
 use rx_grammar::{Fault, Kind};
@@ -22,7 +22,7 @@ pub(crate) struct Trail {
 
 /// What is wrong with a visit to the item at this place.
 fn kind_of(trail: &Trail, place: usize) -> Option<Kind>
-    ensures { result ≡ kind_of trail.now.path.items trail.now.visits place }
+    ensures { result ≡ visit_fault trail.now.path.items trail.now.visits place }
 {
     if is_on(trail.path.as_slice(), place) {
         return Some(Kind::Cycle);
@@ -56,7 +56,7 @@ fn are_many(visits: u32) -> bool
 
 /// A visit begins, or is refused.
 pub(crate) fn enter(trail: &mut Trail, element: &Element<'_>, place: usize) -> Result<(), Stop>
-    ensures { Enters trail.old trail.new element.now place result }
+    ensures { BeginsVisit trail.old trail.new element.now place result }
 {
     if let Some(kind) = kind_of(trail, place) {
         return Err(Stop::Fault(Fault {

@@ -3,7 +3,7 @@ ghost use Rattle.std.specs.Prelude.{◌≡◌, ℕ, List, [], true, IfOk};
 ghost use Rattle.rx_nest.specs.Falling.{Answered, MayAnswer};
 ghost use Rattle.rx_nest.specs.FaultPlaces.{PlaceGives};
 ghost use Rattle.rx_nest.specs.Readings.{IsWhole, has_failed};
-ghost use Rattle.rx_items.specs.Collecting.{Collects, Setting, way_of};
+ghost use Rattle.rx_items.specs.Collecting.{Collects, MicrodataSetting, microdata_way};
 ghost use Rattle.rx_items.specs.Walks as walks;
 
 use crate::collectors::{Base, Collector};
@@ -22,16 +22,16 @@ pub struct ItemWalk {
 }
 
 impl Model for ItemWalk {
-    ghost use Rattle.rx_items.specs.Walks.{Walked};
+    ghost use Rattle.rx_items.specs.Walks.{ItemsWalked};
 
-    ghost Value = { Walked };
+    ghost Value = { ItemsWalked };
 
     ghost view = { λ w. w.reading };
 }
 
 /// The items of a whole page.
 fn items_of(collector: Collector) -> Result<Items, NoMemory>
-    requires { IsWhole way_of Collects collector }
+    requires { IsWhole microdata_way Collects collector }
     ensures { walks.GivesItems collector result }
 {
     let Collector {
@@ -65,10 +65,10 @@ impl ItemWalk {
     /// Takes the whole piece. Text takes no memory where no value gathers it: a piece without `<` and `&` then never wants
     /// memory where no token is unfinished. After a fault or want of memory it answers the same again, and changes nothing.
     pub fn feed(&mut self, piece: &[u8]) -> Result<(), Stop>
-        ensures gives { (setting : Setting) (bytes : List ℕ) → walks.ItemWalkStands setting self.old bytes
-            → walks.FeedGives setting bytes piece.now result self.new }
-        ensures place { (setting : Setting) (bytes : List ℕ) → walks.ItemWalkStands setting self.old bytes
-            → PlaceGives (way_of setting) bytes piece.now result }
+        ensures gives { (setting : MicrodataSetting) (bytes : List ℕ) → walks.ItemWalkStands setting self.old bytes
+            → walks.ItemWalkFeedGives setting bytes piece.now result self.new }
+        ensures place { (setting : MicrodataSetting) (bytes : List ℕ) → walks.ItemWalkStands setting self.old bytes
+            → PlaceGives (microdata_way setting) bytes piece.now result }
         ensures quiet { walks.FeedsQuietly self.old piece.now result }
         ensures asked { MayAnswer self.old.failed self.old.out_of_memory result }
         ensures keeps { Answered result self.new.failed self.new.out_of_memory }
@@ -79,7 +79,7 @@ impl ItemWalk {
 
     /// The page's end: its items. `Unended` comes exactly where the bytes are no page and no earlier fault stands in them.
     pub fn finish(self) -> Result<Items, Stop>
-        ensures gives { (setting : Setting) (bytes : List ℕ) → walks.ItemWalkStands setting self bytes → walks.EndGives setting bytes result }
+        ensures gives { (setting : MicrodataSetting) (bytes : List ℕ) → walks.ItemWalkStands setting self bytes → walks.ItemWalkEndGives setting bytes result }
         ensures asked { MayAnswer self.failed self.out_of_memory result }
     {
         let collector = self.reading.finish()?;

@@ -2,7 +2,7 @@
 ghost use Rattle.std.specs.Prelude.{◌≡◌, true, IfOk, OnOk, List, is_some};
 ghost use Rattle.rx_grammar.specs.Common.{list_all, chars, is_ascii, Attribute, value_of, seen_slice};
 ghost use Rattle.rx_tags.specs.Seen.{tag_seen};
-ghost use Rattle.rx_items.specs.Words.{AreMarks, kept_of, word_span, word_text, words_of, text_of_words, is_marked};
+ghost use Rattle.rx_items.specs.Words.{AreMarks, word_kept, word_span, word_text, words_of, text_of_words, is_marked};
 
 use crate::rows::Words;
 use crate::spans::{Span, keep};
@@ -63,34 +63,34 @@ pub(crate) fn keep_attribute(
 
 /// Whether an attribute is there, and where what is kept of tags ends behind its value.
 #[derive(Clone, Copy)]
-struct Kept {
+struct KeptWord {
     is_there: bool,
     end: usize,
 }
 
 /// Keeps a value, where there is one.
-fn keep_value(words: &mut TextStore, value: Option<&str>) -> Result<Kept, NoMemory>
+fn keep_value(words: &mut TextStore, value: Option<&str>) -> Result<KeptWord, NoMemory>
     ensures text { OnOk result (words.new ≡ word_text words.old (seen_slice value.entry)) }
-    ensures kept { IfOk result (λ kept. kept ≡ kept_of words.old (seen_slice value.entry)) }
+    ensures kept { IfOk result (λ kept. kept ≡ word_kept words.old (seen_slice value.entry)) }
 {
     let Some(value) = value else {
-        return Ok(Kept {
+        return Ok(KeptWord {
             is_there: false,
             end: words.mark(),
         });
     };
     words.push(value)?;
-    Ok(Kept {
+    Ok(KeptWord {
         is_there: true,
         end: words.mark(),
     })
 }
 
 /// The same of an attribute, whose name is ASCII.
-fn keep_word(words: &mut TextStore, tag: &Tag<'_>, name: &str) -> Result<Kept, NoMemory>
+fn keep_word(words: &mut TextStore, tag: &Tag<'_>, name: &str) -> Result<KeptWord, NoMemory>
     requires { list_all is_ascii name.now ≡ true }
     ensures text { OnOk result (words.new ≡ word_text words.old (value_of (tag_seen tag.now).attributes name.now)) }
-    ensures kept { IfOk result (λ kept. kept ≡ kept_of words.old (value_of (tag_seen tag.now).attributes name.now)) }
+    ensures kept { IfOk result (λ kept. kept ≡ word_kept words.old (value_of (tag_seen tag.now).attributes name.now)) }
 {
     keep_value(words, attribute(tag, name))
 }

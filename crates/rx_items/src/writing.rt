@@ -4,7 +4,7 @@ ghost use Rattle.serde_json.specs.View.{view};
 ghost use Rattle.serde_json.specs.Written.{compact_text};
 ghost use Rattle.rx_json.specs.Events.{Grows, data_events, each_events};
 ghost use Rattle.rx_items.specs.Held.{OfRows};
-ghost use Rattle.rx_items.specs.Named.{OfItem, OfPlain, OfRow, ending, events_behind, item_data, key_seen, keys_seen, name_seen, opening, properties_data, value_at, value_behind};
+ghost use Rattle.rx_items.specs.Named.{OfItem, OfPlain, OfRow, ending_events, events_behind, item_data, key_seen, keys_seen, name_seen, opening, properties_data, value_at, value_behind};
 ghost use Rattle.rx_items.specs.Pages.{page_data, top_data, tops_data};
 
 use crate::elements::{element_at, is_item_at, is_top_at, value_at};
@@ -231,7 +231,7 @@ fn next_values<S: Serializer>(before: &str, name: &str, out: &mut S) -> Result<(
 
 /// Behind all values.
 fn end_values<S: Serializer>(before: Option<&str>, out: &mut S) -> Result<(), S::Error>
-    ensures { OnOk result (Grows (S.written out.old) (S.written out.new) (ending (name_seen before.entry))) }
+    ensures { OnOk result (Grows (S.written out.old) (S.written out.new) (ending_events (name_seen before.entry))) }
 {
     match before {
         None => Ok(()),

@@ -4,7 +4,7 @@ use Rattle.rx_chars.specs.declared.syntax.Syntax.{Syntax}
 use Rattle.rx_job.specs.declared.errors.JobError.{JobError}
 use Rattle.rx_job.specs.declared.errors.JobError.TheVariants as error
 use Rattle.rx_job.specs.Jobs.{FailsPage, FailsPages}
-use Rattle.rx_job.specs.Words.{Given, Listed, behind, gathering, gathering_with, gathers, given_by, if_listed, is_file_if_any, is_listed, leading, listed, paired, several, syntax_of}
+use Rattle.rx_job.specs.Words.{Given, Listed, gathering, gathering_with, gathers, if_listed, is_file_if_any, leading, may_be_listed, options_given, pages_listed, paired, several, syntax_of, words_behind}
 
 abbrev page_at : Chars → Chars → Listed
 page_at address page = record { address = address; page = page }
@@ -12,7 +12,7 @@ page_at address page = record { address = address; page = page }
 -- these pages stand at the front of the words, and these words are left
 pub record Lists (words left : List Chars) (pages : List Listed) : Type 0 where
   so : paired words ≡ option_map (λ more. pages ++ more) (paired left)
-  each : list_all is_listed pages ≡ true
+  each : list_all may_be_listed pages ≡ true
 
 pub none_yet : (words : List Chars) → Lists words words []
 none_yet words = record { so = by (paired words); each = refl }
@@ -30,11 +30,11 @@ module _ (words left rest : List Chars) (pages : List Listed) (address page : Ch
       by (Some more) = refl
 
   -- one more page
-  pub one_more : is_listed (page_at address page) ≡ true → Lists words rest (pages ++ page_at address page ∷ [])
+  pub one_more : may_be_listed (page_at address page) ≡ true → Lists words rest (pages ++ page_at address page ∷ [])
   one_more good =
       record {
         so = goes_on ∙ by (paired rest);
-        each = list_all-append is_listed pages (page_at address page ∷ []) ∙ and_from _ _ l.each (and_from _ _ good refl);
+        each = list_all-append may_be_listed pages (page_at address page ∷ []) ∙ and_from _ _ l.each (and_from _ _ good refl);
       }
     where
       by : (x : Option (List Listed)) → option_map (λ more. pages ++ (page_at address page ∷ more)) x ≡ option_map (λ more. (pages ++ page_at address page ∷ []) ++ more) x
@@ -42,11 +42,11 @@ module _ (words left rest : List Chars) (pages : List Listed) (address page : Ch
       by (Some more) = ap Some (sym (append_assoc pages (page_at address page ∷ []) more))
 
   -- a page that isn't one
-  pub not_listed : is_listed (page_at address page) ≡ false → listed words ≡ None
+  pub not_listed : may_be_listed (page_at address page) ≡ false → pages_listed words ≡ None
   not_listed bad = ap (λ x. option_and_then if_listed x) goes_on ∙ by (paired rest)
     where
-      none_all : (more : List Listed) → list_all is_listed (pages ++ (page_at address page ∷ more)) ≡ false
-      none_all more = list_all-append is_listed pages (page_at address page ∷ more) ∙ (ap (λ b. b && list_all is_listed (page_at address page ∷ more)) l.each ∙ ap (λ b. b && list_all is_listed more) bad)
+      none_all : (more : List Listed) → list_all may_be_listed (pages ++ (page_at address page ∷ more)) ≡ false
+      none_all more = list_all-append may_be_listed pages (page_at address page ∷ more) ∙ (ap (λ b. b && list_all may_be_listed (page_at address page ∷ more)) l.each ∙ ap (λ b. b && list_all may_be_listed more) bad)
 
       by : (x : Option (List Listed)) → option_and_then if_listed (option_map (λ more. pages ++ (page_at address page ∷ more)) x) ≡ None
       by None = refl
@@ -57,20 +57,20 @@ module _ (words left rest : List Chars) (pages : List Listed) (address page : Ch
   fails error.NoMemory want = want
 
 -- the end of the words
-pub all_listed : (words left : List Chars) (pages : List Listed) → Lists words left pages → (length left == 0) ≡ true → listed words ≡ Some pages
+pub all_listed : (words left : List Chars) (pages : List Listed) → Lists words left pages → (length left == 0) ≡ true → pages_listed words ≡ Some pages
 all_listed words [] pages l none = ap (λ x. option_and_then if_listed x) (l.so ∙ ap (λ p. Some p) (append-nil pages)) ∙ rw l.each refl
 all_listed words (word ∷ left) pages l none = absurd (grind (arith, nat_tests))
 
-pub one_left : (words left : List Chars) (pages : List Listed) → Lists words left pages → length left < 2 → (length left == 0) ≡ false → listed words ≡ None
+pub one_left : (words left : List Chars) (pages : List Listed) → Lists words left pages → length left < 2 → (length left == 0) ≡ false → pages_listed words ≡ None
 one_left words [] pages l short some = absurd (cc)
 one_left words (word ∷ []) pages l short some = ap (λ x. option_and_then if_listed x) l.so
 one_left words (word ∷ other ∷ left) pages l short some = absurd (omega arith)
 
 -- a context file without a name
-pub no_file : (words : List Chars) (options : Given) → given_by (leading words) ≡ Some options → is_file_if_any options.context ≡ false → option_map gathers (several words) ≡ None
+pub no_file : (words : List Chars) (options : Given) → options_given (leading words) ≡ Some options → is_file_if_any options.context ≡ false → option_map gathers (several words) ≡ None
 no_file words options given none =
-    ap (λ o. option_map gathers (option_and_then (gathering (behind words)) o)) given
-    ∙ ap (λ o. option_map gathers o) (by (syntax_of options.syntax) options.format options.graph options.base (listed (behind words)))
+    ap (λ o. option_map gathers (option_and_then (gathering (words_behind words)) o)) given
+    ∙ ap (λ o. option_map gathers o) (by (syntax_of options.syntax) options.format options.graph options.base (pages_listed (words_behind words)))
   where
     by : (s : Option Syntax) (f g b : Option Chars) (pages : Option (List Listed)) → gathering_with s f g b options.context pages ≡ None
     by None f g b pages = refl

@@ -2,7 +2,7 @@
 use Rattle.std.specs.Prelude.{◌≡◌, Bool, true, false, List, [], ◌∷◌, ◌++◌, Option, Some, None, option_map, Result, MatchResult}
 use Rattle.rx_terms.specs.Common.{Chars, is_iri, Bor}
 use Rattle.rx_chars.specs.declared.syntax.Syntax.TheVariants.{Html}
-use Rattle.rx_job.specs.Words.{Arguments, Asked, Gathering, Given, Job, Listed, reads, gathers, samples, extracts, itemizes, checks, behind, given_by, is_graph, is_listed, leading, listed}
+use Rattle.rx_job.specs.Words.{Arguments, Asked, Gathering, Given, Job, Listed, reads, gathers, samples, extracts, itemizes, checks, words_behind, options_given, is_graph, may_be_listed, leading, pages_listed}
 use Rattle.rx_job.specs.declared.arguments.Arguments.{Arguments as Lent}
 use Rattle.rx_job.specs.declared.arguments.Front.{Front}
 use Rattle.rx_job.specs.declared.asking.Asking.{Asking}
@@ -92,7 +92,7 @@ FailsGraph format name error.NoMemory = Unit {0}
 
 -- the words don't list pages, or want of memory
 abbrev pub FailsPages : List Chars → JobError → Type 0
-FailsPages words error.Usage = listed words ≡ None
+FailsPages words error.Usage = pages_listed words ≡ None
 FailsPages words error.NoMemory = Unit {0}
 
 abbrev pub page_at : Chars → Chars → Listed
@@ -100,11 +100,11 @@ page_at address page = record { address = address; page = page }
 
 -- the page can be listed, and stands at the end now
 abbrev pub AddsListed : Listed → List Listed → List Listed → Type 0
-AddsListed page old new = (is_listed page ≡ true) × (new ≡ old ++ page ∷ [])
+AddsListed page old new = (may_be_listed page ≡ true) × (new ≡ old ++ page ∷ [])
 
 -- the page isn't one that can be listed, or want of memory
 abbrev pub FailsPage : Listed → JobError → Type 0
-FailsPage page error.Usage = is_listed page ≡ false
+FailsPage page error.Usage = may_be_listed page ≡ false
 FailsPage page error.NoMemory = Unit {0}
 
 -- the options that are lent
@@ -119,9 +119,9 @@ options_seen options =
     }
 
 -- these options stand at the front of the words, and these words behind them
-pub record Leads (words : List Chars) (front : Front) : Type 0 where
-  pub gives : given_by (leading words) ≡ Some (options_seen front.options)
-  pub leaves : behind words ≡ front.behind.now
+pub record OptionsLead (words : List Chars) (front : Front) : Type 0 where
+  pub gives : options_given (leading words) ≡ Some (options_seen front.options)
+  pub leaves : words_behind words ≡ front.behind.now
 
 -- the options and the last word that are lent
 abbrev pub given_seen : Lent → Arguments

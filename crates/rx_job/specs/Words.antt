@@ -6,6 +6,7 @@ use Rattle.rx_chars.specs.declared.syntax.Syntax.{Syntax}
 use Rattle.rx_chars.specs.declared.syntax.Syntax.TheVariants.{Html, Xhtml}
 use Rattle.rx_job.specs.declared.formats.Format.{Format}
 use Rattle.rx_job.specs.declared.formats.Format.TheVariants.{Nquads, Turtle, Nested, Jsonld}
+use Rattle.rx_terms.specs.Ascii.{digit_zero}
 
 -- an extraction: the syntax of the page, the format in which its triples are written, the name of the graph in which they
 -- stand, if any, and the page's address
@@ -64,9 +65,9 @@ is_file_name [] = false
 is_file_name (c ∷ name) = true
 
 -- the values that an option has been given
-abbrev pub values : Chars → List (Chars × Chars) → List Chars
-values name [] = []
-values name (option ∷ options) = if is_word option.0 name then option.1 ∷ values name options else values name options
+abbrev pub option_values : Chars → List (Chars × Chars) → List Chars
+option_values name [] = []
+option_values name (option ∷ options) = if is_word option.0 name then option.1 ∷ option_values name options else option_values name options
 
 abbrev pub syntax_word : Chars
 syntax_word = codes "--syntax"
@@ -93,10 +94,10 @@ leading (word ∷ []) = []
 leading (name ∷ value ∷ words) = if is_option name then (name, value) ∷ leading words else []
 
 -- the words behind these
-abbrev pub behind : List Chars → List Chars
-behind [] = []
-behind (word ∷ []) = word ∷ []
-behind (name ∷ value ∷ words) = if is_option name then behind words else name ∷ value ∷ words
+abbrev pub words_behind : List Chars → List Chars
+words_behind [] = []
+words_behind (word ∷ []) = word ∷ []
+words_behind (name ∷ value ∷ words) = if is_option name then words_behind words else name ∷ value ∷ words
 
 -- the options, each given once or not at all
 pub record Given : Type 0 where
@@ -110,7 +111,7 @@ pub record Given : Type 0 where
 abbrev pub at_most_one : List Chars → Option (Option Chars)
 at_most_one [] = Some None
 at_most_one (value ∷ []) = Some (Some value)
-at_most_one (value ∷ second ∷ values) = None
+at_most_one (value ∷ second ∷ option_values) = None
 
 -- what is found of an option: its value, where it is given; no answer where it is given twice
 abbrev pub Found : Type 0
@@ -123,9 +124,9 @@ all_given (Some syntax) (Some format) (Some graph) (Some context) (Some base) =
 all_given syntax format graph context base = None
 
 -- what the options give; no answer where one is given twice
-abbrev pub given_by : List (Chars × Chars) → Option Given
-given_by options =
-    let found : Chars → Found = λ word. at_most_one (values word options) in
+abbrev pub options_given : List (Chars × Chars) → Option Given
+options_given options =
+    let found : Chars → Found = λ word. at_most_one (option_values word options) in
     all_given (found syntax_word) (found format_word) (found graph_word) (found context_word) (found base_word)
 
 -- options, and one word more
@@ -138,8 +139,8 @@ arguments_with (last ∷ []) options = Some (record { options = options; last = 
 arguments_with words options = None
 
 -- what the words behind a task give that is done with one page: options, and the page behind them
-abbrev pub given : List Chars → Option Arguments
-given words = option_and_then (arguments_with (behind words)) (given_by (leading words))
+abbrev pub arguments_given : List Chars → Option Arguments
+arguments_given words = option_and_then (arguments_with (words_behind words)) (options_given (leading words))
 
 -- the context file has a name, where there is one
 abbrev pub is_file_if_any : Option Chars → Bool
@@ -218,15 +219,15 @@ paired (word ∷ []) = None
 paired (address ∷ page ∷ words) = option_map (λ pages. record { address = address; page = page } ∷ pages) (paired words)
 
 -- a page whose address is an IRI, and which has a name
-abbrev pub is_listed : Listed → Bool
-is_listed page = is_iri page.address && is_page_name page.page
+abbrev pub may_be_listed : Listed → Bool
+may_be_listed page = is_iri page.address && is_page_name page.page
 
 abbrev pub if_listed : List Listed → Option (List Listed)
-if_listed pages = if list_all is_listed pages then Some pages else None
+if_listed pages = if list_all may_be_listed pages then Some pages else None
 
 -- the pages of the words, where each is one
-abbrev pub listed : List Chars → Option (List Listed)
-listed words = option_and_then if_listed (paired words)
+abbrev pub pages_listed : List Chars → Option (List Listed)
+pages_listed words = option_and_then if_listed (paired words)
 
 abbrev pub most_pages : ℕ
 most_pages = 1000
@@ -242,27 +243,24 @@ gathering_with (Some syntax) None None None context (Some pages) =
 gathering_with syntax format graph base context pages = None
 
 abbrev pub gathering : List Chars → Given → Option Gathering
-gathering words options = gathering_with (syntax_of options.syntax) options.format options.graph options.base options.context (listed words)
+gathering words options = gathering_with (syntax_of options.syntax) options.format options.graph options.base options.context (pages_listed words)
 
 -- What the words behind `many` ask for: options, and the pages behind them. An option behind a page would be the address of
 -- one, which is no IRI.
 abbrev pub several : List Chars → Option Gathering
-several words = option_and_then (gathering (behind words)) (given_by (leading words))
-
-abbrev pub digit_zero : ℕ
-digit_zero = 48
+several words = option_and_then (gathering (words_behind words)) (options_given (leading words))
 
 -- digits, of which the first isn't 0
-abbrev pub is_number : Chars → Bool
-is_number [] = false
-is_number (c ∷ word) = not (c == digit_zero) && list_all is_ascii_digit (c ∷ word)
+abbrev pub is_positive_number : Chars → Bool
+is_positive_number [] = false
+is_positive_number (c ∷ word) = not (c == digit_zero) && list_all is_ascii_digit (c ∷ word)
 
 abbrev pub most_items : ℕ
 most_items = 100000
 
 -- the number of items, from 1 to 100,000, that a word is in decimal digits without a leading zero
 abbrev pub count_of : Chars → Option ℕ
-count_of word = if is_number word && nat_le (digits_value 10 word) most_items then Some (digits_value 10 word) else None
+count_of word = if is_positive_number word && nat_le (digits_value 10 word) most_items then Some (digits_value 10 word) else None
 
 -- `N`
 abbrev pub sampling : List Chars → Option Job
@@ -277,9 +275,9 @@ job [] = None
 job (task ∷ words) =
     if is_word task (codes "sample") then sampling words
     else (if is_word task (codes "many") then option_map gathers (several words)
-    else (if is_word task (codes "extract") then option_map reads (option_and_then extraction (given words))
-    else (if is_word task (codes "items") then option_map reads (option_and_then itemization (given words))
-    else (if is_word task (codes "check") then option_map reads (option_and_then checking (given words)) else None))))
+    else (if is_word task (codes "extract") then option_map reads (option_and_then extraction (arguments_given words))
+    else (if is_word task (codes "items") then option_map reads (option_and_then itemization (arguments_given words))
+    else (if is_word task (codes "check") then option_map reads (option_and_then checking (arguments_given words)) else None))))
 
 -- the page that is asked for
 abbrev pub page_in : Option Job → Option Asked

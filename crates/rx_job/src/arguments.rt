@@ -1,8 +1,8 @@
 //! The options behind a task, and what stands behind them.
 ghost use Rattle.std.specs.Prelude.{◌≡◌, ◌<◌, [], ◌∷◌, MatchOption, length, None, Some};
-ghost use Rattle.rx_job.specs.Words.{Given, arguments_with, given, given_by, leading};
+ghost use Rattle.rx_job.specs.Words.{Given, arguments_given, arguments_with, leading, options_given};
 ghost use Rattle.rx_job.specs.Options.{NoOption, word_of};
-ghost use Rattle.rx_job.specs.Jobs.{given_seen, Leads};
+ghost use Rattle.rx_job.specs.Jobs.{given_seen, OptionsLead};
 
 use crate::options::{Name, Options, named};
 use rx_terms::Text;
@@ -23,7 +23,7 @@ pub(crate) struct Arguments<'a> {
 
 /// Reads the options and the one word behind them. None where there are more words or none, or an option comes twice.
 pub(crate) fn arguments_of(words: &[Text]) -> Option<Arguments<'_>>
-    ensures { MatchOption result (given words.now ≡ None) (λ found. given words.now ≡ Some (given_seen found)) }
+    ensures { MatchOption result (arguments_given words.now ≡ None) (λ found. arguments_given words.now ≡ Some (given_seen found)) }
 {
     let Some(front) = front_of(words) else {
         return None;
@@ -49,7 +49,7 @@ fn only(words: &[Text]) -> Option<&Text>
 
 /// Reads the options at the front of the words. None where one comes twice.
 pub(crate) fn front_of(words: &[Text]) -> Option<Front<'_>>
-    ensures { MatchOption result (given_by (leading words.now) ≡ None) (λ front. Leads words.now front) }
+    ensures { MatchOption result (options_given (leading words.now) ≡ None) (λ front. OptionsLead words.now front) }
 {
     let mut left = words;
     let mut syntax = None;

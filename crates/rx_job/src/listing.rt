@@ -1,6 +1,6 @@
 //! Pages, as words list them.
 ghost use Rattle.std.specs.Prelude.{◌≡◌, MatchResult, Some};
-ghost use Rattle.rx_job.specs.Words.{are_few, listed};
+ghost use Rattle.rx_job.specs.Words.{are_few, pages_listed};
 ghost use Rattle.rx_job.specs.Jobs.{AddsListed, FailsPage, FailsPages, page_at};
 
 use crate::arguments::next_pair;
@@ -25,7 +25,7 @@ pub(crate) fn are_few(pages: &Pages) -> bool
 /// The pages of words that come in pairs, each an address and a page. Usage comes exactly where one is alone, where an
 /// address is no IRI, or a page has no name that it may have.
 pub(crate) fn pages_of(alloc: Global, words: &[Text]) -> Result<Pages, JobError>
-    ensures { MatchResult result (λ pages. listed words.now ≡ Some pages) (FailsPages words.now) }
+    ensures { MatchResult result (λ pages. pages_listed words.now ≡ Some pages) (FailsPages words.now) }
 {
     let mut pages = Pages::new(alloc);
     let mut left = words;

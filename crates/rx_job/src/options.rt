@@ -1,7 +1,7 @@
 //! The options of a command, and their values.
 ghost use Rattle.std.specs.Prelude.{◌≡◌, option_map};
 ghost use Rattle.rx_job.specs.Jobs.{options_seen, text_in};
-ghost use Rattle.rx_job.specs.Options.{named, put, value_of, with_value};
+ghost use Rattle.rx_job.specs.Options.{option_named, option_put, option_value, with_option};
 
 use crate::words::is_word;
 use rx_terms::Text;
@@ -28,7 +28,7 @@ pub(crate) struct Options<'a> {
 
 /// The option of this name.
 pub(crate) fn named(word: &Text) -> Option<Name>
-    ensures { result ≡ named word.now }
+    ensures { result ≡ option_named word.now }
 {
     if is_word(word, "--syntax") {
         return Some(Name::Syntax);
@@ -51,7 +51,7 @@ pub(crate) fn named(word: &Text) -> Option<Name>
 impl<'a> Options<'a> {
     /// These options, and this one besides. None where it was given.
     pub(crate) fn put(self, name: Name, value: &'a Text) -> Option<Options<'a>>
-        ensures { option_map options_seen result ≡ put name value.now (options_seen self.entry) }
+        ensures { option_map options_seen result ≡ option_put name value.now (options_seen self.entry) }
     {
         match self.value(name) {
             Some(_given) => None,
@@ -61,7 +61,7 @@ impl<'a> Options<'a> {
 
     /// The value of an option, where it was given.
     fn value(&self, name: Name) -> Option<&'a Text>
-        ensures { text_in result ≡ value_of name (options_seen self.now) }
+        ensures { text_in result ≡ option_value name (options_seen self.now) }
     {
         match name {
             Name::Syntax => self.syntax,
@@ -74,7 +74,7 @@ impl<'a> Options<'a> {
 
     /// These options, and this one besides.
     fn with(self, name: Name, value: &'a Text) -> Options<'a>
-        ensures { options_seen result ≡ with_value name value.now (options_seen self.entry) }
+        ensures { options_seen result ≡ with_option name value.now (options_seen self.entry) }
     {
         let value = Some(value);
         match name {

@@ -1,7 +1,7 @@
 //! Words of the command line.
 ghost use Rattle.std.specs.Prelude.{◌≡◌, IsTrue, nat_eq};
 ghost use Rattle.rx_terms.specs.Common.{pointwise, list_all, is_ascii_digit, chars, is_ascii};
-ghost use Rattle.rx_job.specs.Words.{are_names, count_of, is_file_if_any, is_file_name, is_number, is_page_name};
+ghost use Rattle.rx_job.specs.Words.{are_names, count_of, is_file_if_any, is_file_name, is_page_name, is_positive_number};
 ghost use Rattle.rx_job.specs.Jobs.{text_in};
 
 use rx_terms::Text;
@@ -68,7 +68,7 @@ pub(crate) fn count_of(word: &Text) -> Option<u32>
 }
 
 fn is_number(word: &str) -> bool
-    ensures { result ≡ is_number (chars word.now) }
+    ensures { result ≡ is_positive_number (chars word.now) }
 {
     match word.chars().next() {
         None => false,

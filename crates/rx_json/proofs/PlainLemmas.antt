@@ -3,17 +3,17 @@ use Rattle.rx_terms.proofs.Common.{◌≡◌, ◌∙◌, ℕ, false, List, refl,
 use Rattle.json.specs.Tree as tree
 use Rattle.serde_json.specs.Data.{Data, Items, Members, null, boolean, number, string, array, object, no_items, item, no_members, member, depth, items_depth, members_depth}
 use Rattle.serde_json.specs.Written.{has_float, items_have_float, members_have_float, outline, items_outline, members_outline}
-use Rattle.rx_json.specs.Plain.{Leads, IsPlain, ArePlain, MembersArePlain}
+use Rattle.rx_json.specs.Plain.{PrecedesMembers, IsPlain, ArePlain, MembersArePlain}
 
 pub turned : (a b : List ℕ) (o : Ordering) → slice_cmp nat_cmp a b ≡ o → slice_cmp nat_cmp b a ≡ ordering_reverse o
 turned a b o e = nat_list_cmp_total.antisymm b a ∙ ap ordering_reverse e
 
-pub leads_one : (name : List ℕ) (o : Ordering) (x y z : Members) → Leads name x → Leads name y → Leads name z → Leads name (match_ordering o x y z)
+pub leads_one : (name : List ℕ) (o : Ordering) (x y z : Members) → PrecedesMembers name x → PrecedesMembers name y → PrecedesMembers name z → PrecedesMembers name (match_ordering o x y z)
 leads_one name Less x y z p q r = p
 leads_one name Equal x y z p q r = q
 leads_one name Greater x y z p q r = r
 
-pub leads_through : (before name : List ℕ) (members : Members) → slice_cmp nat_cmp before name ≡ Less → Leads name members → Leads before members
+pub leads_through : (before name : List ℕ) (members : Members) → slice_cmp nat_cmp before name ≡ Less → PrecedesMembers name members → PrecedesMembers before members
 leads_through before name no_members c l = tt
 leads_through before name (member other value more) c l = (nat_list_cmp_total.trans before name other c l.0, leads_through before name more c l.1)
 

@@ -10,7 +10,7 @@ use Rattle.serde_json.specs.Data.{Data, Items, Members, null, boolean, number, s
 use Rattle.serde_json.specs.Read.{read, max_depth, of_json, of_items, of_members}
 use Rattle.serde_json.specs.Written.{compact_text, outline, items_outline, members_outline}
 use Rattle.serde_json.proofs.Texts.{print-outline}
-use Rattle.rx_json.specs.Plain.{Leads, IsPlain, ArePlain, MembersArePlain}
+use Rattle.rx_json.specs.Plain.{PrecedesMembers, IsPlain, ArePlain, MembersArePlain}
 use Rattle.rx_json.proofs.PlainLemmas.{turned, outlined}
 
 -- a name comes behind each of these
@@ -45,7 +45,7 @@ trails_more : (done : Members) (name other : List ℕ) (d : Data) → Trails oth
 trails_more no_members name other d h c = (c, tt)
 trails_more (member first e done) name other d h c = (h.0, trails_more done name other d h.1 c)
 
-follow_more : (done : Members) (name : List ℕ) (d : Data) (more : Members) → Follow done more → Leads name more → Follow (joined done (member name d no_members)) more
+follow_more : (done : Members) (name : List ℕ) (d : Data) (more : Members) → Follow done more → PrecedesMembers name more → Follow (joined done (member name d no_members)) more
 follow_more done name d no_members f l = tt
 follow_more done name d (member other e more) f l = (trails_more done name other d f.0 (turned name other Less l.0), follow_more done name d more f.1 l.1)
 

@@ -34,5 +34,5 @@ abbrev pub Grows : Log → Log → List Event → Type 0
 Grows old new more = (before : List Event) → old ≡ Some before → new ≡ Some (before ++ more)
 
 -- what writes so from the start tells this value
-abbrev pub Tells : (Log → Log → Type 0) → Data → Type 0
-Tells writes told = (log : Log) → writes (Some []) log → log ≡ Some (data_events told)
+abbrev pub TellsValue : (Log → Log → Type 0) → Data → Type 0
+TellsValue writes told = (log : Log) → writes (Some []) log → log ≡ Some (data_events told)

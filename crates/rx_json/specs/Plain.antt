@@ -1,13 +1,13 @@
 -- Values without numbers, in whose objects each name stands once, in the order of their bytes.
-use Rattle.std.specs.Prelude.{◌≡◌, ℕ, List}
-use Rattle.rx_terms.specs.Common.{nat_cmp, slice_cmp}
+use Rattle.std.specs.Prelude.{◌≡◌, ℕ, List, encode_utf8_all}
+use Rattle.rx_terms.specs.Common.{Chars, nat_cmp, slice_cmp}
 use Rattle.std.specs.declared.cmp.Ordering.TheVariants.{Less}
 use Rattle.serde_json.specs.Data.{Data, null, boolean, number, string, array, object, Items, no_items, item, Members, no_members, member}
 
 -- a name comes before each of these
-abbrev pub Leads : List ℕ → Members → Type 0
-Leads name no_members = Unit {0}
-Leads name (member other value more) = (slice_cmp nat_cmp name other ≡ Less) × Leads name more
+abbrev pub PrecedesMembers : List ℕ → Members → Type 0
+PrecedesMembers name no_members = Unit {0}
+PrecedesMembers name (member other value more) = (slice_cmp nat_cmp name other ≡ Less) × PrecedesMembers name more
 
 abbrev mutual
   pub IsPlain : Data → Type 0
@@ -24,4 +24,8 @@ abbrev mutual
 
   pub MembersArePlain : Members → Type 0
   MembersArePlain no_members = Unit {0}
-  MembersArePlain (member name d more) = IsPlain d × Leads name more × MembersArePlain more
+  MembersArePlain (member name d more) = IsPlain d × PrecedesMembers name more × MembersArePlain more
+
+-- the string of these characters
+abbrev pub string_of : Chars → Data
+string_of text = string (encode_utf8_all text)

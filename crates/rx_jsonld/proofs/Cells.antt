@@ -1,10 +1,10 @@
 -- Chains of cells, and the cells that are listed.
-use Rattle.rx_jsonld.proofs.Common.{◌≡◌, ◌↔◌, ◌∙◌, ◌⊎◌, ◌<◌, ℕ, zero, suc, nat_eq, Bool, true, false, cond, List, [], ◌∷◌, length, bytes_eq, Option, Some, None, refl, sym, ap, inl, inr, subst, true≢false, arith, not, ◌&&◌, Chars, and_from, Among, Node, Iri, Blank, Term, Resource, Literal, Triple, set_of, spo, rdf_type, rdf_first, rdf_rest, rdf_nil, Among_flat_map, Among_of_flat_map, Among-contains, Among_by_contains, false_unless, and_left, and_right, exact_numbers, exact_texts, Ends, onward, Cell, IsShape, HaveShapes, Shape, objects_of, first_of, object_at, ListsCells, GoesOn, IsListed, first_one, later_one, blank_in, numbers_from, chain, is_cell_by, is_cell, may_list, cell_by, first_cell, cells_at, listed, is_listed}
+use Rattle.rx_jsonld.proofs.Common.{◌≡◌, ◌↔◌, ◌∙◌, ◌⊎◌, ◌<◌, ℕ, zero, suc, nat_eq, Bool, true, false, cond, List, [], ◌∷◌, length, bytes_eq, Option, Some, None, refl, sym, ap, inl, inr, subst, true≢false, arith, not, ◌&&◌, Chars, and_from, Among, Node, Iri, Blank, Term, Resource, Literal, Triple, set_of, spo, rdf_type, rdf_first, rdf_rest, rdf_nil, Among_flat_map, Among_of_flat_map, Among-contains, Among_by_contains, false_unless, and_left, and_right, exact_numbers, exact_texts, Ends, onward, Cell, IsShape, HaveShapes, Shape, objects_of, first_member, object_at, ListsCells, CellGoesOn, IsListed, first_one, later_one, blank_in, numbers_from, chain, is_cell_by, is_cell, may_list, cell_by, first_cell, cells_at, listed, is_listed}
 use Rattle.rx_shapes.specs.declared.shapes.Shape.TheVariants as shape
 use Rattle.rx_shapes.proofs.Heights.{Differ, height, height_once, heights_alike}
 use Rattle.rx_shapes.proofs.CellLemmas.{CellOf, cell_of, cell_inner, first_some, first_each, rest_some, rest_each, Enough, none_left, child_enough, first_enough, first_is_not_rest}
 
-only_one : {A : Type 0} (xs : List A) (x : A) → Among xs x → ((y : A) → Among xs y → y ≡ x) → first_of xs ≡ Some x
+only_one : {A : Type 0} (xs : List A) (x : A) → Among xs x → ((y : A) → Among xs y → y ≡ x) → first_member xs ≡ Some x
 only_one [] x m h = absurd m
 only_one (y ∷ xs) x m h = ap Some (h y (inl refl))
 
@@ -336,7 +336,7 @@ module _ (list : List (Triple ℕ)) where
     cell_named (Iri iri) e = absurd (true≢false (sym e))
     cell_named (Blank c) e = (c, refl, of_shape c (shapes c) (have c) e)
 
-    may_be : (s : Node ℕ) (p : Chars) → ¬ (GoesOn (set_of list) s p) → ¬ (p ≡ rdf_first) → ¬ (p ≡ rdf_type) → may_list shapes s p ≡ true
+    may_be : (s : Node ℕ) (p : Chars) → ¬ (CellGoesOn (set_of list) s p) → ¬ (p ≡ rdf_first) → ¬ (p ≡ rdf_type) → may_list shapes s p ≡ true
     may_be s p goes first type =
         let joins : (is_cell shapes s && bytes_eq p rdf_rest) ≡ false = false_unless (is_cell shapes s && bytes_eq p rdf_rest) (λ e.
         let c = cell_named s (and_left (is_cell shapes s) (bytes_eq p rdf_rest) e) in

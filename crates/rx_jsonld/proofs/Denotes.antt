@@ -1,5 +1,5 @@
 -- The value of a list denotes its triples.
-use Rattle.rx_jsonld.proofs.Common.{◌≡◌, ◌∙◌, ◌↔◌, ◌≤◌, ◌<◌, ◌^◌, ℕ, suc, ◌+◌, nat_eq, true, false, cond, List, [], ◌∷◌, ◌++◌, map, flat_map, length, get_or, refl, sym, ap, inl, inr, subst, true≢false, arith, append_assoc, not, IsIri, Chars, decimal_is_IsNumeral, items_of, Among, contains, Node, Iri, Blank, Term, Resource, Literal, Triple, same_node, same_triple, set_of, spo, rename_node, rename_term, rename, blank_of_node, blank_of_term, blanks_of, place_in, Has, Renamed, Among_right, Among_cases, Among_map, Among_of_map, Among_filter, Among_of_filter, Among_flat_map, Among_of_flat_map, Among_by_contains, Among-contains, Among_of_distinct, false_unless, exact_numbers, exact_triples, rdf_first, rdf_rest, proper_term, proper_triple, WritableNode, WritableTerm, IsWritable, Shape, has_subject, about, subjects, HaveShapes, cells_at, listed, is_listed, node_value, tops, jsonld, all_triples, Name, Label, Place, JsonLd, ValueDenotes}
+use Rattle.rx_jsonld.proofs.Common.{◌≡◌, ◌∙◌, ◌↔◌, ◌≤◌, ◌<◌, ◌^◌, ℕ, suc, ◌+◌, nat_eq, true, false, cond, List, [], ◌∷◌, ◌++◌, map, flat_map, length, get_or, refl, sym, ap, inl, inr, subst, true≢false, arith, append_assoc, not, IsIri, Chars, decimal_is_IsNumeral, items_of, Among, contains, Node, Iri, Blank, Term, Resource, Literal, Triple, same_node, same_triple, set_of, spo, rename_node, rename_term, rename, blank_of_node, blank_of_term, blanks_of, place_in, Has, Renamed, Among_right, Among_cases, Among_map, Among_of_map, Among_filter, Among_of_filter, Among_flat_map, Among_of_flat_map, Among_by_contains, Among-contains, Among_of_distinct, false_unless, exact_numbers, exact_triples, rdf_first, rdf_rest, proper_term, proper_triple, WritableNode, WritableTerm, IsWritable, Shape, has_subject, about, subjects, HaveShapes, cells_at, listed, is_listed, node_value, tops, jsonld, all_triples, JsonLdBlank, Label, Place, JsonLd, ValueDenotes}
 use Rattle.rx_terms.proofs.Bools.{untrue, by_test}
 use Rattle.std.specs.Str.Parse.{digits_value}
 use Rattle.std.proofs.lemmas.List.{length-append}
@@ -51,10 +51,10 @@ tail [] = []
 tail (c ∷ text) = text
 
 module _ (cells : List ℕ) where
-  abbrev pub name_of : ℕ → Name
+  abbrev pub name_of : ℕ → JsonLdBlank
   name_of b = cond (contains nat_eq cells b) (Place (place_in nat_eq cells b)) (label_of b)
 
-  abbrev pub number_of : Name → ℕ
+  abbrev pub number_of : JsonLdBlank → ℕ
   number_of (Label text) = digits_value 10 (tail text)
   number_of (Place n) = get_or cells n 0
 
@@ -111,54 +111,54 @@ module _ (cells : List ℕ) where
   triple_again t h = λ i. record { subject = node_again t.subject h.subject i; predicate = t.predicate; object = term_again t.object h.object i }
 
   -- a name of a renamed triple is that of a number
-  record Numbered (a : Name) : Type 0 where
+  record Numbered (a : JsonLdBlank) : Type 0 where
     number : ℕ
     is : name_of number ≡ a
     small : number < 2 ^ 64
 
-  node_numbered : (node : Node ℕ) (a : Name) → WritableNode node → Among (blank_of_node (rename_node name_of node)) a → Numbered a
+  node_numbered : (node : Node ℕ) (a : JsonLdBlank) → WritableNode node → Among (blank_of_node (rename_node name_of node)) a → Numbered a
   node_numbered (Iri iri) a h m = absurd m
   node_numbered (Blank b) a h (inl e) = record { number = b; is = e; small = h }
   node_numbered (Blank b) a h (inr m) = absurd m
 
-  term_numbered : (o : Term ℕ) (a : Name) → FineTerm o → Among (blank_of_term (rename_term name_of o)) a → Numbered a
+  term_numbered : (o : Term ℕ) (a : JsonLdBlank) → FineTerm o → Among (blank_of_term (rename_term name_of o)) a → Numbered a
   term_numbered (Resource node) a h m = node_numbered node a h m
   term_numbered (Literal text kind) a h m = absurd m
 
-  triple_numbered : (t : Triple ℕ) (a : Name) → FineTriple t → Among (blanks_of (rename name_of t)) a → Numbered a
+  triple_numbered : (t : Triple ℕ) (a : JsonLdBlank) → FineTriple t → Among (blanks_of (rename name_of t)) a → Numbered a
   triple_numbered t a h m = elim (Among_cases (blank_of_node (rename_node name_of t.subject)) (blank_of_term (rename_term name_of t.object)) a m) [
     | inl k ↦ node_numbered t.subject a h.subject k
     | inr k ↦ term_numbered t.object a h.object k
   ]
 
-  number_again : (a : Name) → Numbered a → name_of (number_of a) ≡ a
+  number_again : (a : JsonLdBlank) → Numbered a → name_of (number_of a) ≡ a
   number_again a n = ap (λ z. name_of (number_of z)) (sym n.is) ∙ ap name_of (name_again n.number n.small) ∙ n.is
 
-  module _ (named : List (Triple Name)) (triples graph : List (Triple ℕ)) (are : named ≡ map (rename name_of) triples) (same : (t : Triple ℕ) → Among triples t ↔ Among graph t)
+  module _ (named : List (Triple JsonLdBlank)) (triples graph : List (Triple ℕ)) (are : named ≡ map (rename name_of) triples) (same : (t : Triple ℕ) → Among triples t ↔ Among graph t)
       (fine : (t : Triple ℕ) → Among graph t → FineTriple t) where
-    record Renames (t : Triple Name) : Type 0 where
+    record Renames (t : Triple JsonLdBlank) : Type 0 where
       from : Triple ℕ
       there : Among graph from
       is : rename name_of from ≡ t
 
-    renames : (t : Triple Name) → Among named t → Renames t
+    renames : (t : Triple JsonLdBlank) → Among named t → Renames t
     renames t m =
-        let f = Among_of_map (rename name_of) triples t (subst (λ (z : List (Triple Name)). Among z t) are m) in
+        let f = Among_of_map (rename name_of) triples t (subst (λ (z : List (Triple JsonLdBlank)). Among z t) are m) in
         record { from = f.0; there = (same f.0).0 f.1; is = f.2 }
 
-    forth_there : (t : Triple Name) → Among named t → Among graph (rename number_of t)
+    forth_there : (t : Triple JsonLdBlank) → Among named t → Among graph (rename number_of t)
     forth_there t m =
         let r = renames t m in
         subst (Among graph) (sym (triple_again r.from (fine r.from r.there)) ∙ ap (rename number_of) r.is) r.there
 
-    back_there : (u : Triple ℕ) → Among graph u → (t : Triple Name) × Among named t × (rename number_of t ≡ u)
+    back_there : (u : Triple ℕ) → Among graph u → (t : Triple JsonLdBlank) × Among named t × (rename number_of t ≡ u)
     back_there u m =
-        (rename name_of u, subst (λ (z : List (Triple Name)). Among z (rename name_of u)) (sym are) (Among_map (rename name_of) triples u ((same u).1 m)), triple_again u (fine u m))
+        (rename name_of u, subst (λ (z : List (Triple JsonLdBlank)). Among z (rename name_of u)) (sym are) (Among_map (rename name_of) triples u ((same u).1 m)), triple_again u (fine u m))
 
-    has_number : (a : Name) → Has (set_of named) a → Numbered a
+    has_number : (a : JsonLdBlank) → Has (set_of named) a → Numbered a
     has_number a (t, m, h) =
         let r = renames t m in
-        triple_numbered r.from a (fine r.from r.there) (subst (λ (z : Triple Name). Among (blanks_of z) a) (sym r.is) h)
+        triple_numbered r.from a (fine r.from r.there) (subst (λ (z : Triple JsonLdBlank). Among (blanks_of z) a) (sym r.is) h)
 
     pub named_back : Renamed (set_of named) (set_of graph)
     named_back = record {

@@ -1,5 +1,5 @@
 -- The document of a list of triples, and what it says.
-use Rattle.rx_jsonld.proofs.Common.{◌≡◌, ◌∙◌, ◌⊎◌, ℕ, ◌+◌, false, List, [], ◌∷◌, ◌++◌, map, flat_map, length, codes, refl, sym, ap, ap₂, inl, inr, subst, arith, map-append, IsIri, Members, no_members, member, items_of, Among, Node, Triple, rename, Among_left, Among_right, Among_cases, WritableTerm, Shape, about, HaveShapes, cells_at, is_listed, string_of, id_text, with_said, with_all, node_value, Id, NodeObject, Document, SpellsEach, SpellsNode, ids, cells_of_all, entries_triples, triples_by, node_triples, all_triples, Name, Label, Place}
+use Rattle.rx_jsonld.proofs.Common.{◌≡◌, ◌∙◌, ◌⊎◌, ℕ, ◌+◌, false, List, [], ◌∷◌, ◌++◌, map, flat_map, length, codes, refl, sym, ap, ap₂, inl, inr, subst, arith, map-append, IsIri, Members, no_members, member, items_of, Among, Node, Triple, rename, Among_left, Among_right, Among_cases, WritableTerm, Shape, about, HaveShapes, cells_at, is_listed, string_of, id_text, with_said, with_all, node_value, Id, NodeObject, JsonLdDocument, SpellsEach, SpellsNodeObject, ids, cells_of_all, entries_triples, triples_by, node_triples, all_triples, JsonLdBlank, Label, Place}
 use Rattle.rx_shapes.proofs.Times.{times, times_append}
 use Rattle.rx_jsonld.proofs.Parts.{PartStands, stands_front, stands_behind, Naming, FreeNode, names_node, node_named, told}
 use Rattle.rx_jsonld.proofs.PlainLemmas.{rising_differ, id_said_fit}
@@ -85,11 +85,11 @@ module _ (list : List (Triple ℕ)) (shapes : ℕ → Shape) (have : HaveShapes 
 
     pub record NodeDoc : Type 0 where
       pub node : NodeObject
-      pub spelled : SpellsNode (node_value list shapes s) node
+      pub spelled : SpellsNodeObject (node_value list shapes s) node
       pub cells : List ℕ
       pub triples : List (Triple ℕ)
       pub size : cells_of_all node ≡ length cells
-      pub named : (names : ℕ → Name) → Naming list shapes names → (n : ℕ) → PartStands names n cells → node_triples Label Place node n ≡ map (rename names) triples
+      pub named : (names : ℕ → JsonLdBlank) → Naming list shapes names → (n : ℕ) → PartStands names n cells → node_triples Label Place node n ≡ map (rename names) triples
       pub count : (b : ℕ) → times b cells ≡ times b (cells_by (about list s))
       pub from : (u : Triple ℕ) → Among triples u → Among (told_by (about list s)) u
       pub put : (u : Triple ℕ) → Among (told_by (about list s)) u → Among triples u
@@ -132,11 +132,11 @@ module _ (list : List (Triple ℕ)) (shapes : ℕ → Shape) (have : HaveShapes 
   -- ---- all node objects
 
   pub record Docs (ss : List (Node ℕ)) : Type 0 where
-    pub doc : Document
-    pub spelled : SpellsEach SpellsNode (items_of (map (node_value list shapes) ss)) doc
+    pub doc : JsonLdDocument
+    pub spelled : SpellsEach SpellsNodeObject (items_of (map (node_value list shapes) ss)) doc
     pub cells : List ℕ
     pub triples : List (Triple ℕ)
-    pub named : (names : ℕ → Name) → Naming list shapes names → (n : ℕ) → PartStands names n cells → all_triples Label Place doc n ≡ map (rename names) triples
+    pub named : (names : ℕ → JsonLdBlank) → Naming list shapes names → (n : ℕ) → PartStands names n cells → all_triples Label Place doc n ≡ map (rename names) triples
     pub count : (b : ℕ) → times b cells ≡ times b (flat_map (λ (s : Node ℕ). cells_by (about list s)) ss)
     pub from : (u : Triple ℕ) → Among triples u → (s : Node ℕ) × Among ss s × Among (told_by (about list s)) u
     pub put : (s : Node ℕ) (u : Triple ℕ) → Among ss s → Among (told_by (about list s)) u → Among triples u

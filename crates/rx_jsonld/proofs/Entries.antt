@@ -1,5 +1,5 @@
 -- The members of a node object, as they come one after another, and what they say.
-use Rattle.rx_jsonld.proofs.Common.{◌≡◌, ◌∙◌, ℕ, ◌+◌, nat_cmp, Bool, true, false, cond, List, [], ◌∷◌, ◌++◌, map, flat_map, length, bytes_eq, codes, encode_utf8_all, Option, Some, None, Ordering, Less, Equal, Greater, refl, sym, ap, ap₂, subst, true≢false, arith, append_assoc, append-nil, ◌&&◌, not, is_eq, slice_cmp, encodes_same, IsIri, Chars, Data, Items, Members, array, no_items, item, no_members, member, Among, Node, Iri, Blank, Term, Resource, Literal, Triple, spo, rdf_type, rdf_first, rdf_rest, rename_node, rename_term, rename, exact_texts, proper_term, WritableTerm, Shape, HaveShapes, is_cell_by, is_cell, may_list, cell_by, first_cell, cells_at, is_listed, string_of, id_text, type_by, type_of, object_value, said_by, with_said, items_and, behind, with_last, Object, Entry, Id, Types, Property, NamesNode, SpellsEach, SpellsArray, SpellsName, SpellsObject, SpellsEntry, SpellsEntries, id_in, ids, cells_in, cells_in_all, cells_of, cells_of_all, node_of, object_triples, objects_triples, type_triple, entry_triples, entries_triples, Name, Label, Place}
+use Rattle.rx_jsonld.proofs.Common.{◌≡◌, ◌∙◌, ℕ, ◌+◌, nat_cmp, Bool, true, false, cond, List, [], ◌∷◌, ◌++◌, map, flat_map, length, bytes_eq, codes, encode_utf8_all, Option, Some, None, Ordering, Less, Equal, Greater, refl, sym, ap, ap₂, subst, true≢false, arith, append_assoc, append-nil, ◌&&◌, not, is_eq, slice_cmp, encodes_same, IsIri, Chars, Data, Items, Members, array, no_items, item, no_members, member, Among, Node, Iri, Blank, Term, Resource, Literal, Triple, spo, rdf_type, rdf_first, rdf_rest, rename_node, rename_term, rename, exact_texts, proper_term, WritableTerm, Shape, HaveShapes, is_cell_by, is_cell, may_list, cell_by, first_cell, cells_at, is_listed, string_of, id_text, type_by, type_of, object_value, said_by, with_said, items_and, value_appended, with_last, Object, Entry, Id, Types, Property, NamesNode, SpellsEach, SpellsArray, SpellsName, SpellsObject, SpellsEntry, SpellsEntries, entry_id, ids, cells_in, cells_in_all, cells_in_entry, cells_of_all, node_of, object_triples, objects_triples, type_triple, entry_triples, entries_triples, JsonLdBlank, Label, Place}
 use Rattle.rx_terms.proofs.Common.{match_ordering, is_eq-slice_cmp, bytes_eq-Decides}
 use Rattle.std.proofs.lemmas.List.{map-append, length-append}
 use Rattle.rx_graph.specs.Resources.{resource_of}
@@ -47,14 +47,14 @@ each_more Spelled no_items (b ∷ list) value a h k = absurd h
 each_more Spelled (item first values) [] value a h k = absurd h
 each_more Spelled (item first values) (b ∷ list) value a h k = (h.0, each_more Spelled values list value a h.1 k)
 
-array_more : {A : Type 0} (Spelled : Data → A → Type 0) (old value : Data) (list : List A) (a : A) → SpellsArray Spelled old list → Spelled value a → SpellsArray Spelled (behind value old) (list ++ a ∷ [])
-array_more Spelled old value list a h k = (items_and h.0 value, ap (behind value) h.1, each_more Spelled h.0 list value a h.2 k)
+array_more : {A : Type 0} (Spelled : Data → A → Type 0) (old value : Data) (list : List A) (a : A) → SpellsArray Spelled old list → Spelled value a → SpellsArray Spelled (value_appended value old) (list ++ a ∷ [])
+array_more Spelled old value list a h k = (items_and h.0 value, ap (value_appended value) h.1, each_more Spelled h.0 list value a h.2 k)
 
 cells_more : (objects : List Object) (o : Object) → cells_in_all (objects ++ o ∷ []) ≡ cells_in_all objects + cells_in o
 cells_more [] o = omega arith
 cells_more (x ∷ objects) o = let e = cells_more objects o in omega (arith, e)
 
-objects_more : (s : Node Name) (p : Chars) (objects : List Object) (o : Object) (n : ℕ)
+objects_more : (s : Node JsonLdBlank) (p : Chars) (objects : List Object) (o : Object) (n : ℕ)
     → objects_triples Label Place s p (objects ++ o ∷ []) n ≡ objects_triples Label Place s p objects n ++ object_triples Label Place s p o (n + cells_in_all objects)
 objects_more s p [] o n =
     let same : n ≡ n + 0 = omega arith in
@@ -68,8 +68,8 @@ module _ (list : List (Triple ℕ)) (shapes : ℕ → Shape) (s : Node ℕ) wher
   -- a member and its part
   pub record Fine (key : List ℕ) (value : Data) (part : Part) : Type 0 where
     pub spelled : SpellsEntry key value part.entry
-    pub size : cells_of part.entry ≡ length part.cells
-    pub named : (names : ℕ → Name) → Naming list shapes names → (n : ℕ) → PartStands names n part.cells
+    pub size : cells_in_entry part.entry ≡ length part.cells
+    pub named : (names : ℕ → JsonLdBlank) → Naming list shapes names → (n : ℕ) → PartStands names n part.cells
         → entry_triples Label Place (rename_node names s) part.entry n ≡ map (rename names) part.triples
 
   abbrev pub AllFine : Members → List Part → Type 0
@@ -80,7 +80,7 @@ module _ (list : List (Triple ℕ)) (shapes : ℕ → Shape) (s : Node ℕ) wher
 
   -- they spell the entries, and have their cells and triples
   pub all_fine : (ms : Members) (parts : List Part) → AllFine ms parts → SpellsEntries ms (part_entries parts) × (cells_of_all (part_entries parts) ≡ length (part_cells parts))
-      × ((names : ℕ → Name) → Naming list shapes names → (n : ℕ) → PartStands names n (part_cells parts) → entries_triples Label Place (rename_node names s) (part_entries parts) n ≡ map (rename names) (part_triples parts))
+      × ((names : ℕ → JsonLdBlank) → Naming list shapes names → (n : ℕ) → PartStands names n (part_cells parts) → entries_triples Label Place (rename_node names s) (part_entries parts) n ≡ map (rename names) (part_triples parts))
   all_fine no_members [] h = (tt, refl, λ names naming n k. refl)
   all_fine (member key value more) (part ∷ parts) h =
       let all = all_fine more parts h.1 in (
@@ -88,8 +88,8 @@ module _ (list : List (Triple ℕ)) (shapes : ℕ → Shape) (s : Node ℕ) wher
         ap₂ (λ a b. a + b) h.0.size all.1 ∙ sym (length-append part.cells (part_cells parts)),
         λ names naming n k.
             let first = h.0.named names naming n (stands_front names n part.cells (part_cells parts) k) in
-            let rest : PartStands names (n + cells_of part.entry) (part_cells parts) = subst (λ z. PartStands names (n + z) (part_cells parts)) (sym h.0.size) (stands_behind names n part.cells (part_cells parts) k) in
-            ap₂ (λ a b. a ++ b) first (all.2 names naming (n + cells_of part.entry) rest) ∙ sym (map-append (rename names) part.triples (part_triples parts)),
+            let rest : PartStands names (n + cells_in_entry part.entry) (part_cells parts) = subst (λ z. PartStands names (n + z) (part_cells parts)) (sym h.0.size) (stands_behind names n part.cells (part_cells parts) k) in
+            ap₂ (λ a b. a ++ b) first (all.2 names naming (n + cells_in_entry part.entry) rest) ∙ sym (map-append (rename names) part.triples (part_triples parts)),
       )
   all_fine _ _ h = absurd h
 
@@ -110,15 +110,15 @@ module _ (list : List (Triple ℕ)) (shapes : ℕ → Shape) (s : Node ℕ) wher
       pub fine : Fine key (array (item value no_items)) part
       pub cells_are : part.cells ≡ cells
       pub triples_are : part.triples ≡ triples
-      pub no_id : id_in part.entry ≡ []
+      pub no_id : entry_id part.entry ≡ []
 
     -- an entry that has it last
     pub record Extended (old : Data) (part : Part) : Type 0 where
       pub now : Part
-      pub fine : Fine key (behind value old) now
+      pub fine : Fine key (value_appended value old) now
       pub cells_are : now.cells ≡ part.cells ++ cells
       pub triples_are : now.triples ≡ part.triples ++ triples
-      pub same_id : id_in now.entry ≡ id_in part.entry
+      pub same_id : entry_id now.entry ≡ entry_id part.entry
 
     module _ (fresh : Fresh) (extend : (old : Data) (part : Part) → Fine key old part → Extended old part) where
       in_front : (ms : Members) (parts : List Part) → AllFine ms parts → Grown cells triples (member key (array (item value no_items)) ms) parts
@@ -135,14 +135,14 @@ module _ (list : List (Triple ℕ)) (shapes : ℕ → Shape) (s : Node ℕ) wher
       grown (member first old more) (part ∷ parts) h = go (slice_cmp nat_cmp key first) refl (grown more parts h.1)
         where
           go : (o : Ordering) → slice_cmp nat_cmp key first ≡ o → Grown cells triples (with_last key value more) parts
-              → Grown cells triples (match_ordering o (member key (array (item value no_items)) (member first old more)) (member first (behind value old) more) (member first old (with_last key value more))) (part ∷ parts)
+              → Grown cells triples (match_ordering o (member key (array (item value no_items)) (member first old more)) (member first (value_appended value old) more) (member first old (with_last key value more))) (part ∷ parts)
           go Less e ih = in_front (member first old more) (part ∷ parts) h
           go Equal e ih =
               let same : first ≡ key = sym (same_texts key first e) in
               let x = extend old part (subst (λ k. Fine k old part) same h.0) in
               record {
                 now = x.now ∷ parts;
-                fine = (subst (λ k. Fine k (behind value old) x.now) (sym same) x.fine, h.1);
+                fine = (subst (λ k. Fine k (value_appended value old) x.now) (sym same) x.fine, h.1);
                 cells_put = record { front = part.cells; behind = part_cells parts; was = refl; is = ap (λ z. z ++ part_cells parts) x.cells_are ∙ append_assoc part.cells cells (part_cells parts) };
                 triples_put = record { front = part.triples; behind = part_triples parts; was = refl; is = ap (λ z. z ++ part_triples parts) x.triples_are ∙ append_assoc part.triples triples (part_triples parts) };
                 same_ids = ap (λ z. z ++ ids (part_entries parts)) x.same_id;
@@ -152,7 +152,7 @@ module _ (list : List (Triple ℕ)) (shapes : ℕ → Shape) (s : Node ℕ) wher
             fine = (h.0, ih.fine);
             cells_put = further_in part.cells cells (part_cells parts) (part_cells ih.now) ih.cells_put;
             triples_put = further_in part.triples triples (part_triples parts) (part_triples ih.now) ih.triples_put;
-            same_ids = ap (λ z. id_in part.entry ++ z) ih.same_ids;
+            same_ids = ap (λ z. entry_id part.entry ++ z) ih.same_ids;
           }
       grown _ _ h = absurd h
 
@@ -192,12 +192,12 @@ module _ (list : List (Triple ℕ)) (shapes : ℕ → Shape) (s : Node ℕ) wher
     the_object : ObjectDoc list shapes have objects t
     the_object = object_doc list shapes have objects t m subject_free
 
-    told_named : (names : ℕ → Name) → spo (rename_node names s) t.predicate (rename_term names (proper_term t.object)) ∷ map (rename names) (cell_triples list shapes (cells_at shapes list t)) ≡ map (rename names) (told list shapes t)
+    told_named : (names : ℕ → JsonLdBlank) → spo (rename_node names s) t.predicate (rename_term names (proper_term t.object)) ∷ map (rename names) (cell_triples list shapes (cells_at shapes list t)) ≡ map (rename names) (told list shapes t)
     told_named names = ap (λ n. spo (rename_node names n) t.predicate (rename_term names (proper_term t.object)) ∷ map (rename names) (cell_triples list shapes (cells_at shapes list t))) (sym of_it)
 
     -- ---- an object under its predicate
 
-    one_named : (names : ℕ → Name) → Naming list shapes names → (n : ℕ) → PartStands names n (cells_at shapes list t)
+    one_named : (names : ℕ → JsonLdBlank) → Naming list shapes names → (n : ℕ) → PartStands names n (cells_at shapes list t)
         → object_triples Label Place (rename_node names s) t.predicate the_object.object n ≡ map (rename names) (told list shapes t)
     one_named names naming n k = the_object.named names naming (rename_node names s) t.predicate n k ∙ told_named names
 
@@ -220,7 +220,7 @@ module _ (list : List (Triple ℕ)) (shapes : ℕ → Shape) (s : Node ℕ) wher
         says : (q : Chars) (objects : List Object) → part.entry ≡ Property q objects → SpellsEntry (encode_utf8_all t.predicate) old (Property q objects) → Extended (encode_utf8_all t.predicate) (object_value list shapes t) (cells_at shapes list t) (told list shapes t) old part
         says q objects e spelled =
             let same : q ≡ t.predicate = sym (encodes_same t.predicate q spelled.0) in
-            let size : cells_in_all objects ≡ length part.cells = sym (ap cells_of e) ∙ fine.size in
+            let size : cells_in_all objects ≡ length part.cells = sym (ap cells_in_entry e) ∙ fine.size in
             record {
               now = record { entry = Property q (objects ++ the_object.object ∷ []); cells = part.cells ++ cells_at shapes list t; triples = part.triples ++ told list shapes t };
               fine = record {
@@ -236,7 +236,7 @@ module _ (list : List (Triple ℕ)) (shapes : ℕ → Shape) (s : Node ℕ) wher
               };
               cells_are = refl;
               triples_are = refl;
-              same_id = sym (ap id_in e);
+              same_id = sym (ap entry_id e);
             }
 
         go : (entry : Entry) → part.entry ≡ entry → Extended (encode_utf8_all t.predicate) (object_value list shapes t) (cells_at shapes list t) (told list shapes t) old part
@@ -256,7 +256,7 @@ module _ (list : List (Triple ℕ)) (shapes : ℕ → Shape) (s : Node ℕ) wher
       type_names : NamesNode (id_text node)
       type_names = names_node list shapes node node_free
 
-      type_named : (names : ℕ → Name) → Naming list shapes names → type_triple Label Place (rename_node names s) (id_text node) ∷ [] ≡ map (rename names) (told list shapes t)
+      type_named : (names : ℕ → JsonLdBlank) → Naming list shapes names → type_triple Label Place (rename_node names s) (id_text node) ∷ [] ≡ map (rename names) (told list shapes t)
       type_named names naming =
           let is : rename_term names (Resource node) ≡ rename_term names (proper_term t.object) = ap (λ o. rename_term names (proper_term o)) (sym typed.object) in
           let object : Resource (node_of Label Place (id_text node)) ≡ rename_term names (proper_term t.object) = ap Resource (node_named list shapes names naming node node_free) ∙ is in
@@ -285,7 +285,7 @@ module _ (list : List (Triple ℕ)) (shapes : ℕ → Shape) (s : Node ℕ) wher
             now = record { entry = Types (types ++ id_text node ∷ []); cells = part.cells ++ cells_at shapes list t; triples = part.triples ++ told list shapes t };
             fine = record {
               spelled = (refl, array_more SpellsName old (string_of (id_text node)) types (id_text node) spelled.1 (type_names, refl));
-              size = sym (ap cells_of e) ∙ fine.size ∙ sym (ap length (ap (λ z. part.cells ++ z) no_cells ∙ append-nil part.cells));
+              size = sym (ap cells_in_entry e) ∙ fine.size ∙ sym (ap length (ap (λ z. part.cells ++ z) no_cells ∙ append-nil part.cells));
               named = λ names naming n k.
                   map-append (type_triple Label Place (rename_node names s)) types (id_text node ∷ [])
                   ∙ ap₂ (λ a b. a ++ b) (sym (ap (λ x. entry_triples Label Place (rename_node names s) x n) e) ∙ fine.named names naming n (stands_front names n part.cells (cells_at shapes list t) k)) (type_named names naming)
@@ -293,7 +293,7 @@ module _ (list : List (Triple ℕ)) (shapes : ℕ → Shape) (s : Node ℕ) wher
             };
             cells_are = refl;
             triples_are = refl;
-            same_id = sym (ap id_in e);
+            same_id = sym (ap entry_id e);
           }
 
           go : (entry : Entry) → part.entry ≡ entry → Extended (codes "@type") (string_of (id_text node)) (cells_at shapes list t) (told list shapes t) old part

@@ -1,5 +1,5 @@
 -- What a value denotes is made of terms that have their form.
-use Rattle.rx_jsonld.proofs.Common.{◌+◌, ℕ, zero, suc, List, [], ◌∷◌, ◌++◌, map, bytes_eq, Option, refl, sym, subst, inl, inr, IsIri, Chars, Data, Items, Members, no_items, item, no_members, member, Among, Kind, Plain, Tagged, Typed, Node, Iri, Blank, Term, Resource, Literal, Triple, rename_node, rename_term, rename, Among_cases, rdf_type, rdf_first, rdf_rest, rdf_nil, proper_kind, Item, Reference, Value, Object, Single, ListObject, Entry, Id, Types, Property, NodeObject, Document, NamesNode, IsFormed, SpellsEach, SpellsName, SpellsItem, SpellsObject, SpellsEntry, SpellsEntries, SpellsNode, id_in, ids, cells_in, cells_of, cells_of_all, node_by, node_of, term_of, list_node, list_triples, object_triples, objects_triples, type_triple, entry_triples, entries_triples, triples_by, node_triples, all_triples, Label, Place, IsFormedNode, IsFormedTerm, IsFormedTriple, DenotesFormed}
+use Rattle.rx_jsonld.proofs.Common.{◌+◌, ℕ, zero, suc, List, [], ◌∷◌, ◌++◌, map, bytes_eq, Option, refl, sym, subst, inl, inr, IsIri, Chars, Data, Items, Members, no_items, item, no_members, member, Among, Kind, Plain, Tagged, Typed, Node, Iri, Blank, Term, Resource, Literal, Triple, rename_node, rename_term, rename, Among_cases, rdf_type, rdf_first, rdf_rest, rdf_nil, proper_kind, NodeOrValue, Reference, Value, Object, Single, ListObject, Entry, Id, Types, Property, NodeObject, JsonLdDocument, NamesNode, IsFormed, SpellsEach, SpellsName, SpellsItem, SpellsObject, SpellsEntry, SpellsEntries, SpellsNodeObject, entry_id, ids, cells_in, cells_in_entry, cells_of_all, node_by, node_of, term_of, list_node, list_triples, object_triples, objects_triples, type_triple, entry_triples, entries_triples, triples_by, node_triples, all_triples, Label, Place, IsFormedNode, IsFormedTerm, IsFormedTriple, DenotesFormed}
 use Rattle.rx_model.proofs.Common.{by_test, xsd_string}
 use Rattle.rx_jsonld.proofs.Parts.{no_label}
 
@@ -42,7 +42,7 @@ kind_formed (Typed datatype) h = by_test (bytes_eq datatype xsd_string) (λ e. r
 name_formed : (value : Data) (text : Chars) → SpellsName value text → NamesNode text
 name_formed value text h = h.0
 
-id_names : (key : List ℕ) (value : Data) (entry : Entry) (id : Chars) → SpellsEntry key value entry → Among (id_in entry) id → NamesNode id
+id_names : (key : List ℕ) (value : Data) (entry : Entry) (id : Chars) → SpellsEntry key value entry → Among (entry_id entry) id → NamesNode id
 id_names key value (Id text) id h (inl e) = subst NamesNode e (name_formed value text h.1)
 id_names key value (Id text) id h (inr m) = absurd m
 id_names key value (Types types) id h m = absurd m
@@ -50,7 +50,7 @@ id_names key value (Property predicate objects) id h m = absurd m
 
 ids_name : (members : Members) (entries : List Entry) (id : Chars) → SpellsEntries members entries → Among (ids entries) id → NamesNode id
 ids_name no_members [] id h m = absurd m
-ids_name (member key value more) (entry ∷ entries) id h m = elim (Among_cases (id_in entry) (ids entries) id m) [
+ids_name (member key value more) (entry ∷ entries) id h m = elim (Among_cases (entry_id entry) (ids entries) id m) [
   | inl k ↦ id_names key value entry id h.0 k
   | inr k ↦ ids_name more entries id h.1 k
 ]
@@ -63,15 +63,15 @@ module _ {B : Type 0} (label : Chars → B) (place : ℕ → B) where
   node_formed text (inl b) = subst (λ (z : Chars). IsFormedNode (node_of label place z)) (sym b.spelled) tt
   node_formed text (inr is) = subst (λ (o : Option Chars). IsFormedNode (node_by label place text o)) (sym (no_label text is)) is
 
-  term_formed : (value : Data) (x : Item) → SpellsItem value x → IsFormedTerm (term_of label place x)
+  term_formed : (value : Data) (x : NodeOrValue) → SpellsItem value x → IsFormedTerm (term_of label place x)
   term_formed value (Reference id) h = node_formed id h.0
   term_formed value (Value text kind) (ms, e, formed, h) = kind_formed kind formed
 
-  list_node_formed : (xs : List Item) (n : ℕ) → IsFormedNode (list_node label place xs n)
+  list_node_formed : (xs : List NodeOrValue) (n : ℕ) → IsFormedNode (list_node label place xs n)
   list_node_formed [] n = nil_iri
   list_node_formed (x ∷ more) n = tt
 
-  list_formed : (values : Items) (xs : List Item) (n : ℕ) → SpellsEach SpellsItem values xs → AllFormed (list_triples label place xs n)
+  list_formed : (values : Items) (xs : List NodeOrValue) (n : ℕ) → SpellsEach SpellsItem values xs → AllFormed (list_triples label place xs n)
   list_formed values [] n h = tt
   list_formed no_items (x ∷ more) n h = absurd h
   list_formed (item value values) (x ∷ more) n h = (
@@ -106,16 +106,16 @@ module _ {B : Type 0} (label : Chars → B) (place : ℕ → B) where
     entries_formed ms [] n h = tt
     entries_formed no_members (entry ∷ entries) n h = absurd h
     entries_formed (member key value more) (entry ∷ entries) n h =
-        both_formed (entry_triples label place subject entry n) (entries_triples label place subject entries (n + cells_of entry))
-        (entry_formed key value entry n h.0) (entries_formed more entries (n + cells_of entry) h.1)
+        both_formed (entry_triples label place subject entry n) (entries_triples label place subject entries (n + cells_in_entry entry))
+        (entry_formed key value entry n h.0) (entries_formed more entries (n + cells_in_entry entry) h.1)
 
-  object_node_formed : (value : Data) (node : NodeObject) (n : ℕ) → SpellsNode value node → AllFormed (node_triples label place node n)
+  object_node_formed : (value : Data) (node : NodeObject) (n : ℕ) → SpellsNodeObject value node → AllFormed (node_triples label place node n)
   object_node_formed value node n h =
       let names : NamesNode h.id = ids_name h.members node h.id h.spelled (subst (λ (z : List Chars). Among z h.id) (sym h.named) (inl refl)) in
       subst (λ (z : List Chars). AllFormed (triples_by label place z node n)) (sym h.named)
       (entries_formed (node_of label place h.id) (node_formed h.id names) h.members node n h.spelled)
 
-  document_formed : (values : Items) (document : Document) (n : ℕ) → SpellsEach SpellsNode values document → AllFormed (all_triples label place document n)
+  document_formed : (values : Items) (document : JsonLdDocument) (n : ℕ) → SpellsEach SpellsNodeObject values document → AllFormed (all_triples label place document n)
   document_formed values [] n h = tt
   document_formed no_items (node ∷ more) n h = absurd h
   document_formed (item value values) (node ∷ more) n h =

@@ -1,5 +1,5 @@
 -- Places that are put behind those of their keys, and the name of a node before them.
-use Rattle.rx_jsonld.proofs.Common.{◌≡◌, ◌∙◌, ◌<◌, refl, sym, ap, ℕ, List, [], ◌∷◌, ◌++◌, Bool, false, true≢false, codes, slice_get, Option, Some, None, Ordering, Less, Equal, Greater, nat_eq, nat_cmp, encode_utf8_all, inl, inr, arith, Global, Vec, nat_tests, encode_ascii, slice_cmp, is_letter, IsIri, begins_with_scheme, Chars, split_at, front_grows, Data, array, object, item, Members, no_members, member, items_of, Among, Node, Triple, Among_of_filter, Shape, has_subject, about, IsWritable, key_by, key_of, value_by, value_said, value_at, values_at, grouped, with_found, id_text, string_of, type_of, said_by, with_said, with_all, node_value, items_and, with_last}
+use Rattle.rx_jsonld.proofs.Common.{◌≡◌, ◌∙◌, ◌<◌, refl, sym, ap, ℕ, List, [], ◌∷◌, ◌++◌, Bool, false, true≢false, codes, slice_get, Option, Some, None, Ordering, Less, Equal, Greater, nat_eq, nat_cmp, encode_utf8_all, inl, inr, arith, Global, Vec, nat_tests, encode_ascii, slice_cmp, is_letter, IsIri, begins_with_scheme, Chars, split_at, front_grows, Data, array, object, item, Members, no_members, member, items_of, Among, Node, Triple, Among_of_filter, Shape, has_subject, about, IsWritable, member_name_by, member_name, value_by, value_said, value_at, values_at, grouped, with_found, id_text, string_of, type_of, said_by, with_said, with_all, node_value, items_and, with_last}
 use Rattle.rx_terms.proofs.Common.{Bor, AllByRecursion, by_test, nat_list_cmp_total, insert_entry, is_at}
 use Rattle.std.specs.List.Sorted.{IsStrictlySortedBy}
 use Rattle.std.specs.Map.{keys_of, lookup, set_value}
@@ -56,12 +56,12 @@ module _ (list : List (Triple ℕ)) (shapes : ℕ → Shape) where
       go Equal o absent ih = absurd (cc (rw o at absent))
       go Greater o absent ih = rw o (ap (member e.0.now (array (items_of (values_at list shapes e.1.items)))) (ih (rw o at absent)))
 
-  said_under : (t : Triple ℕ) (o : Option (Node ℕ)) (ms : Members) → with_last (key_by t o) (value_by list shapes t o) ms ≡ said_by list shapes t o ms
+  said_under : (t : Triple ℕ) (o : Option (Node ℕ)) (ms : Members) → with_last (member_name_by t o) (value_by list shapes t o) ms ≡ said_by list shapes t o ms
   said_under t (Some node) ms = refl
   said_under t None ms = refl
 
   -- what a triple says is its value, behind those of its key
-  pub found_under : (place : ℕ) (t : Triple ℕ) (key : List ℕ) (ms : Members) → slice_get list place ≡ Some t → key ≡ key_of t
+  pub found_under : (place : ℕ) (t : Triple ℕ) (key : List ℕ) (ms : Members) → slice_get list place ≡ Some t → key ≡ member_name t
       → with_last key (value_at list shapes place) ms ≡ with_found list shapes (slice_get list place) ms
   found_under place t key ms is named = rw is (ap (λ (name : List ℕ). with_last name (value_said list shapes t) ms) named ∙ said_under t (type_of t) ms)
 

@@ -1,5 +1,5 @@
 -- No object of a document's value has a key twice.
-use Rattle.rx_jsonld.proofs.Common.{ℕ, refl, sym, inl, inr, subst, List, [], ◌∷◌, Chars, Data, Items, Members, object, no_items, item, no_members, member, Kind, Plain, Tagged, Typed, Item, Reference, Value, Object, Single, ListObject, Entry, Id, Types, Property, NodeObject, SpellsEach, SpellsArray, SpellsText, SpellsName, SpellsItem, SpellsValue, SpellsObject, SpellsEntry, SpellsEntries, SpellsNode, KeysDifferIn, KeysDifferInItems, KeysDifferInMembers, KeysStandOnce}
+use Rattle.rx_jsonld.proofs.Common.{ℕ, refl, sym, inl, inr, subst, List, [], ◌∷◌, Chars, Data, Items, Members, object, no_items, item, no_members, member, Kind, Plain, Tagged, Typed, NodeOrValue, Reference, Value, Object, Single, ListObject, Entry, Id, Types, Property, NodeObject, SpellsEach, SpellsArray, SpellsText, SpellsName, SpellsItem, SpellsValue, SpellsObject, SpellsEntry, SpellsEntries, SpellsNodeObject, KeysDifferIn, KeysDifferInItems, KeysDifferInMembers, KeysStandOnce}
 
 module _ {A : Type 0} (Spelled : Data → A → Type 0) (once : (value : Data) (a : A) → Spelled value a → KeysDifferIn value) where
   each_once : (values : Items) (list : List A) → SpellsEach Spelled values list → KeysDifferInItems values
@@ -23,7 +23,7 @@ members_once ms text (Tagged tag) (inr e) = subst (λ (z : Members). KeysDifferI
 members_once ms text (Typed datatype) (inl e) = subst (λ (z : Members). KeysDifferIn (object z)) (sym e) (refl, (tt, (tt, tt)))
 members_once ms text (Typed datatype) (inr e) = subst (λ (z : Members). KeysDifferIn (object z)) (sym e) (refl, (tt, (tt, tt)))
 
-item_once : (value : Data) (x : Item) → SpellsItem value x → KeysDifferIn value
+item_once : (value : Data) (x : NodeOrValue) → SpellsItem value x → KeysDifferIn value
 item_once value (Reference id) (p, e) = subst KeysDifferIn (sym e) (refl, (tt, tt))
 item_once value (Value text kind) (ms, e, p, h) = subst KeysDifferIn (sym e) (members_once ms text kind h)
 
@@ -41,8 +41,8 @@ entries_once no_members entries h = tt
 entries_once (member key value more) [] h = absurd h
 entries_once (member key value more) (entry ∷ entries) h = (entry_once key value entry h.0, entries_once more entries h.1)
 
-node_once : (value : Data) (node : NodeObject) → SpellsNode value node → KeysDifferIn value
+node_once : (value : Data) (node : NodeObject) → SpellsNodeObject value node → KeysDifferIn value
 node_once value node h = subst KeysDifferIn (sym h.is_object) (h.keys_differ, entries_once h.members node h.spelled)
 
 pub keys_stand_once : KeysStandOnce
-keys_stand_once value document h = array_once SpellsNode node_once value document h
+keys_stand_once value document h = array_once SpellsNodeObject node_once value document h

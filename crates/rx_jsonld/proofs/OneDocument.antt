@@ -1,8 +1,8 @@
 -- A value is that of at most one document.
 use lib.Utf8.{encode}
-use Rattle.rx_jsonld.proofs.Common.{◌≡◌, bytes_eq, ◌∙◌, ℕ, List, [], ◌∷◌, refl, sym, ap, ap₂, inl, inr, subst, codes, encode_utf8_all, true≢false, encodes_same, Chars, split_at, IsIri, Data, Items, Members, string, array, object, no_items, item, no_members, member, Kind, Plain, Tagged, Typed, set_of, Renamed, named_triples, DenotesOne}
+use Rattle.rx_jsonld.proofs.Common.{◌≡◌, bytes_eq, ◌∙◌, ℕ, List, [], ◌∷◌, refl, sym, ap, ap₂, inl, inr, subst, codes, encode_utf8_all, true≢false, encodes_same, Chars, split_at, IsIri, Data, Items, Members, string, array, object, no_items, item, no_members, member, Kind, Plain, Tagged, Typed, set_of, Renamed, named_triples, JsonLdDenotesOne}
 use Rattle.rx_model.proofs.Renamings.{renamed_across}
-use Rattle.rx_jsonld.specs.Document.{Item, Reference, Value, Single, ListObject, Entry, Id, Types, Property, Document, SpellsEach, SpellsArray, SpellsText, SpellsName, SpellsItem, SpellsObject, SpellsValue, SpellsEntry, SpellsEntries, SpellsNode, AreTwo, one, SpellsOne}
+use Rattle.rx_jsonld.specs.Document.{NodeOrValue, Reference, Value, Single, ListObject, Entry, Id, Types, Property, JsonLdDocument, SpellsEach, SpellsArray, SpellsText, SpellsName, SpellsItem, SpellsObject, SpellsValue, SpellsEntry, SpellsEntries, SpellsNodeObject, AreTwo, one, JsonLdSpellsOne}
 use Rattle.rx_jsonld.proofs.GroupLemmas.{not_letter}
 
 -- ---- arrays
@@ -123,7 +123,7 @@ item_once value (Value a k) (Value b l) (ms, h, p, s) (ns, g, q, r) =
 
 -- ---- objects and members
 
-list_is_no_item : {A : Type 0} (value d : Data) (x : Item) → value ≡ object (member (codes "@list") d no_members) → SpellsItem value x → A
+list_is_no_item : {A : Type 0} (value d : Data) (x : NodeOrValue) → value ≡ object (member (codes "@list") d no_members) → SpellsItem value x → A
 list_is_no_item value d (Reference a) e (p, h) = absurd (cc ((one_of_members _ _ _ _ _ _ (object_same _ _ (sym h ∙ e))).0))
 list_is_no_item value d (Value a k) e (ms, h, p, s) = list_is_no_value d ms a k (sym e ∙ h) s
 
@@ -164,16 +164,16 @@ entries_once (member key value rest) [] ys h g = absurd h
 entries_once (member key value rest) (x ∷ xs) [] h g = absurd g
 entries_once (member key value rest) (x ∷ xs) (y ∷ ys) h g = ap₂ (λ (a : Entry) (more : List Entry). a ∷ more) (entry_once key value x y h.0 g.0) (entries_once rest xs ys h.1 g.1)
 
-node_once : AtMostOne SpellsNode
+node_once : AtMostOne SpellsNodeObject
 node_once value a b h g =
     let same : g.members ≡ h.members = object_same g.members h.members (sym g.is_object ∙ h.is_object) in
     entries_once h.members a b h.spelled (subst (λ (z : Members). SpellsEntries z b) same g.spelled)
 
-pub spells_one : SpellsOne
-spells_one value xs ys h g = array_once SpellsNode node_once value xs ys h g
+pub spells_one : JsonLdSpellsOne
+spells_one value xs ys h g = array_once SpellsNodeObject node_once value xs ys h g
 
-pub denotes_one : DenotesOne
+pub denotes_one : JsonLdDenotesOne
 denotes_one value xs ys h g =
     let same = spells_one value h.document g.document h.spells g.spells in
-    let moved : Renamed (set_of (named_triples h.document)) (set_of ys) = subst (λ (d : Document). Renamed (set_of (named_triples d)) (set_of ys)) (sym same) g.renamed in
+    let moved : Renamed (set_of (named_triples h.document)) (set_of ys) = subst (λ (d : JsonLdDocument). Renamed (set_of (named_triples d)) (set_of ys)) (sym same) g.renamed in
     renamed_across (named_triples h.document) xs ys h.renamed moved

@@ -1,5 +1,5 @@
 -- What is said of a node, as a document has it.
-use Rattle.rx_jsonld.proofs.Common.{◌≡◌, ◌∙◌, ℕ, suc, ◌+◌, Bool, true, false, cond, List, [], ◌∷◌, ◌++◌, map, length, bytes_eq, Option, Some, None, refl, sym, ap, ap₂, inl, inr, subst, true≢false, arith, ◌&&◌, ◌==◌, nat_tests, length-map, IsIri, Chars, colon, low_line, decimal, Data, array, no_items, items_of, Among, Plain, Tagged, Typed, Node, Iri, Blank, Term, Resource, Literal, Triple, spo, rename_node, rename_term, rename, and_right, exact_texts, rdf_first, rdf_rest, rdf_nil, proper_term, proper_triple, WritableKind, WritableTerm, Shape, HaveShapes, object_at, first_cell, cells_at, is_listed, id_text, literal_members, term_value, list_value, item_by, item_value, is_empty_list, may_be_empty, object_by, object_value, Item, Reference, Object, Single, ListObject, Entry, Id, Types, Property, NamesNode, SpellsEach, SpellsArray, SpellsText, SpellsItem, SpellsObject, SpellsEntry, SpellsEntries, id_in, ids, label_in, cells_in, node_by, node_of, term_of, list_node, list_triples, object_triples, Name, Label, Place}
+use Rattle.rx_jsonld.proofs.Common.{◌≡◌, ◌∙◌, ℕ, suc, ◌+◌, Bool, true, false, cond, List, [], ◌∷◌, ◌++◌, map, length, bytes_eq, Option, Some, None, refl, sym, ap, ap₂, inl, inr, subst, true≢false, arith, ◌&&◌, ◌==◌, nat_tests, length-map, IsIri, Chars, colon, low_line, decimal, Data, array, no_items, items_of, Among, Plain, Tagged, Typed, Node, Iri, Blank, Term, Resource, Literal, Triple, spo, rename_node, rename_term, rename, and_right, exact_texts, rdf_first, rdf_rest, rdf_nil, proper_term, proper_triple, WritableKind, WritableTerm, Shape, HaveShapes, object_at, first_cell, cells_at, is_listed, id_text, literal_members, term_value, list_value, item_by, item_value, is_empty_list, may_be_empty, object_by, object_value, NodeOrValue, Reference, Object, Single, ListObject, Entry, Id, Types, Property, NamesNode, SpellsEach, SpellsArray, SpellsText, SpellsItem, SpellsObject, SpellsEntry, SpellsEntries, entry_id, ids, label_in, cells_in, node_by, node_of, term_of, list_node, list_triples, object_triples, JsonLdBlank, Label, Place}
 use Rattle.rx_terms.proofs.Bools.{by_test}
 use Rattle.rx_jsonld.specs.Document as doc
 use Rattle.rx_jsonld.proofs.OneDocument.{label_is_no_iri}
@@ -18,25 +18,25 @@ no_label (c ∷ d ∷ text) is = by_test (c == low_line)
 -- ---- names by place
 
 -- the numbers have these places, from one on
-abbrev pub PartStands : (ℕ → Name) → ℕ → List ℕ → Type 0
+abbrev pub PartStands : (ℕ → JsonLdBlank) → ℕ → List ℕ → Type 0
 PartStands names n [] = Unit {0}
 PartStands names n (b ∷ more) = (names b ≡ Place n) × PartStands names (suc n) more
 
-pub stands_front : (names : ℕ → Name) (n : ℕ) (xs ys : List ℕ) → PartStands names n (xs ++ ys) → PartStands names n xs
+pub stands_front : (names : ℕ → JsonLdBlank) (n : ℕ) (xs ys : List ℕ) → PartStands names n (xs ++ ys) → PartStands names n xs
 stands_front names n [] ys h = tt
 stands_front names n (x ∷ xs) ys h = (h.0, stands_front names (suc n) xs ys h.1)
 
-pub stands_behind : (names : ℕ → Name) (n : ℕ) (xs ys : List ℕ) → PartStands names n (xs ++ ys) → PartStands names (n + length xs) ys
+pub stands_behind : (names : ℕ → JsonLdBlank) (n : ℕ) (xs ys : List ℕ) → PartStands names n (xs ++ ys) → PartStands names (n + length xs) ys
 stands_behind names n [] ys h = let e : n ≡ n + 0 = omega arith in subst (λ k. PartStands names k ys) e h
 stands_behind names n (x ∷ xs) ys h = let e : suc n + length xs ≡ n + suc (length xs) = omega arith in subst (λ k. PartStands names k ys) e (stands_behind names (suc n) xs ys h.1)
 
 -- the label of a number
-abbrev pub label_of : ℕ → Name
+abbrev pub label_of : ℕ → JsonLdBlank
 label_of b = Label (98 ∷ decimal b)
 
 module _ (list : List (Triple ℕ)) (shapes : ℕ → Shape) where
   -- nodes that aren't listed are named by their labels
-  pub record Naming (names : ℕ → Name) : Type 0 where
+  pub record Naming (names : ℕ → JsonLdBlank) : Type 0 where
     pub free : (b : ℕ) → is_listed shapes list (Blank b) ≡ false → names b ≡ label_of b
 
   abbrev pub FreeNode : Node ℕ → Type 0
@@ -56,13 +56,13 @@ module _ (list : List (Triple ℕ)) (shapes : ℕ → Shape) where
   names_node (Iri iri) h = inr h
   names_node (Blank b) h = inl (record { label = 98 ∷ decimal b; spelled = refl })
 
-  pub node_named : (names : ℕ → Name) → Naming names → (node : Node ℕ) → FreeNode node → node_of Label Place (id_text node) ≡ rename_node names node
+  pub node_named : (names : ℕ → JsonLdBlank) → Naming names → (node : Node ℕ) → FreeNode node → node_of Label Place (id_text node) ≡ rename_node names node
   node_named names naming (Iri iri) h = ap (node_by Label Place iri) (no_label iri h)
   node_named names naming (Blank b) h = ap Blank (sym (naming.free b h))
 
   -- ---- terms
 
-  abbrev pub item_doc : Term ℕ → Item
+  abbrev pub item_doc : Term ℕ → NodeOrValue
   item_doc (Resource node) = Reference (id_text node)
   item_doc (Literal text kind) = doc.Value text kind
 
@@ -72,7 +72,7 @@ module _ (list : List (Triple ℕ)) (shapes : ℕ → Shape) where
   item_spelled (Literal text (Tagged tag)) h = (literal_members text (Tagged tag), refl, h.is_tag, inl refl)
   item_spelled (Literal text (Typed datatype)) h = (literal_members text (Typed datatype), refl, h.is_iri, inl refl)
 
-  item_named : (names : ℕ → Name) → Naming names → (o : Term ℕ) → FreeTerm o → term_of Label Place (item_doc o) ≡ rename_term names (proper_term o)
+  item_named : (names : ℕ → JsonLdBlank) → Naming names → (o : Term ℕ) → FreeTerm o → term_of Label Place (item_doc o) ≡ rename_term names (proper_term o)
   item_named names naming (Resource node) h = ap Resource (node_named names naming node h)
   item_named names naming (Literal text kind) h = refl
 
@@ -86,7 +86,7 @@ module _ (list : List (Triple ℕ)) (shapes : ℕ → Shape) where
   abbrev pub item_at : ℕ → Term ℕ
   item_at b = some_term (object_at list (Blank b) rdf_first)
 
-  abbrev items_doc : List ℕ → List Item
+  abbrev items_doc : List ℕ → List NodeOrValue
   items_doc cells = map (λ b. item_doc (item_at b)) cells
 
   -- the triples of cells, as they are read
@@ -100,7 +100,7 @@ module _ (list : List (Triple ℕ)) (shapes : ℕ → Shape) where
   triple_path : {B : Type 0} (s s' : Node B) (p : Chars) (o o' : Term B) → s ≡ s' → o ≡ o' → spo s p o ≡ spo s' p o'
   triple_path s s' p o o' e f = λ i. record { subject = e i; predicate = p; object = f i }
 
-  after_named : (names : ℕ → Name) (more : List ℕ) (n : ℕ) → PartStands names n more → list_node Label Place (items_doc more) n ≡ rename_node names (node_after more)
+  after_named : (names : ℕ → JsonLdBlank) (more : List ℕ) (n : ℕ) → PartStands names n more → list_node Label Place (items_doc more) n ≡ rename_node names (node_after more)
   after_named names [] n h = refl
   after_named names (b ∷ more) n h = ap Blank (sym h.0)
 
@@ -122,7 +122,7 @@ module _ (list : List (Triple ℕ)) (shapes : ℕ → Shape) where
     list_spelled : (cells : List ℕ) → IsChain list cells → SpellsObject (list_value (map (item_value list) cells)) (ListObject (items_doc cells))
     list_spelled cells links = (array (items_of (map (item_value list) cells)), refl, (items_of (map (item_value list) cells), refl, items_spelled cells links))
 
-    list_named : (names : ℕ → Name) → Naming names → (cells : List ℕ) (n : ℕ) → IsChain list cells → PartStands names n cells → list_triples Label Place (items_doc cells) n ≡ map (rename names) (cell_triples cells)
+    list_named : (names : ℕ → JsonLdBlank) → Naming names → (cells : List ℕ) (n : ℕ) → IsChain list cells → PartStands names n cells → list_triples Label Place (items_doc cells) n ≡ map (rename names) (cell_triples cells)
     list_named names naming [] n links h = refl
     list_named names naming (b ∷ more) n links h =
         let here : Blank (Place n) ≡ rename_node names (Blank b) = ap Blank (sym h.0) in
@@ -137,7 +137,7 @@ module _ (list : List (Triple ℕ)) (shapes : ℕ → Shape) where
       pub object : Object
       pub spelled : SpellsObject (object_value list shapes t) object
       pub size : cells_in object ≡ length (cells_at shapes list t)
-      pub named : (names : ℕ → Name) → Naming names → (s : Node Name) (p : Chars) (n : ℕ) → PartStands names n (cells_at shapes list t)
+      pub named : (names : ℕ → JsonLdBlank) → Naming names → (s : Node JsonLdBlank) (p : Chars) (n : ℕ) → PartStands names n (cells_at shapes list t)
           → object_triples Label Place s p object n ≡ spo s p (rename_term names (proper_term t.object)) ∷ map (rename names) (cell_triples (cells_at shapes list t))
 
     pub free_object : (t : Triple ℕ) → Among list t → is_listed shapes list t.subject ≡ false → first_cell shapes t ≡ None → FreeTerm t.object

@@ -1,5 +1,5 @@
 -- What is found by the places of a node's triples.
-use Rattle.rx_jsonld.proofs.Common.{◌≡◌, ◌∙◌, ℕ, zero, suc, ◌+◌, ◌-◌, ◌<◌, nat_eq, Bool, true, false, cond, List, [], ◌∷◌, ◌++◌, map, filter, flat_map, take, slice_get, Option, Some, None, option_to_list, refl, sym, ap, ap₂, subst, inl, inr, arith, append-nil, append_assoc, not, ◌&&◌, ◌||◌, nat_tests, map-append, take-map, Chars, Data, Members, Among, contains, distinct, with_one, Node, Iri, Blank, Triple, same_node, node_seen, triple_seen, triples_seen, Among_cases, Among-contains, Among_by_contains, Among_distinct, Among_of_distinct, rdf_rest, WritableTriple, Shape, about, subjects, object_at, blank_in, numbers_from, chain, cells_at, listed, is_listed, with_said, with_all, node_value, nodes_added, with_found, with_places, starts, node_at}
+use Rattle.rx_jsonld.proofs.Common.{◌≡◌, ◌∙◌, ℕ, zero, suc, ◌+◌, ◌-◌, ◌<◌, nat_eq, Bool, true, false, cond, List, [], ◌∷◌, ◌++◌, map, filter, flat_map, take, slice_get, Option, Some, None, option_to_list, refl, sym, ap, ap₂, subst, inl, inr, arith, append-nil, append_assoc, not, ◌&&◌, ◌||◌, nat_tests, map-append, take-map, Chars, Data, Members, Among, contains, distinct, with_one, Node, Iri, Blank, Triple, same_node, node_seen, triple_seen, triples_seen, Among_cases, Among-contains, Among_by_contains, Among_distinct, Among_of_distinct, rdf_rest, WritableTriple, Shape, about, subjects, object_at, blank_in, numbers_from, chain, cells_at, listed, is_listed, with_said, with_all, node_value, nodes_added, with_found, with_places, starts_with_place, node_at}
 use Rattle.rx_model.proofs.Common.{filter-append, same_truth, by_test, flat_map-append}
 use Rattle.std.proofs.Math.Bool.{or-false, or_assoc}
 use Rattle.rx_terms.specs.declared.triples.Blank.{Blank as Number}
@@ -37,17 +37,17 @@ abbrev subject_in : Triple ℕ → Node ℕ
 subject_in t = t.subject
 
 starts_from : (s : Node ℕ) (j k : ℕ) (rest : List (Triple ℕ)) (t : Triple ℕ) → slice_get rest k ≡ Some t → stands_for s t ≡ true
-    → starts (positions (stands_for s) j rest) (j + k) ≡ not (contains (same_node nat_eq) (map subject_in (take k rest)) s)
+    → starts_with_place (positions (stands_for s) j rest) (j + k) ≡ not (contains (same_node nat_eq) (map subject_in (take k rest)) s)
 starts_from s j k [] t at is = absurd (cc)
 starts_from s j zero (x ∷ rest) t at is =
     let same : x ≡ t = cc in
     let test : stands_for s x ≡ true = ap (stands_for s) same ∙ is in
     let here : nat_eq j (j + 0) ≡ true = grind (arith, nat_tests) in
-    ap (λ b. starts (cond b (j ∷ positions (stands_for s) (suc j) rest) (positions (stands_for s) (suc j) rest)) (j + 0)) test ∙ here
+    ap (λ b. starts_with_place (cond b (j ∷ positions (stands_for s) (suc j) rest) (positions (stands_for s) (suc j) rest)) (j + 0)) test ∙ here
 starts_from s j (suc k) (x ∷ rest) t at is =
     let later : nat_eq j (j + suc k) ≡ false = grind (arith, nat_tests) in
     let next : j + suc k ≡ suc j + k = omega arith in
-    by_test (stands_for s x) (λ e. rw (← same_back s x.subject, e) later) (λ e. rw (← same_back s x.subject, e) (ap (starts (positions (stands_for s) (suc j) rest)) next ∙ starts_from s (suc j) k rest t at is))
+    by_test (stands_for s x) (λ e. rw (← same_back s x.subject, e) later) (λ e. rw (← same_back s x.subject, e) (ap (starts_with_place (positions (stands_for s) (suc j) rest)) next ∙ starts_from s (suc j) k rest t at is))
 
 among_distinct : (nodes : List (Node ℕ)) (s : Node ℕ) → contains (same_node nat_eq) nodes s ≡ contains (same_node nat_eq) (distinct (same_node nat_eq) nodes) s
 among_distinct nodes s = same_truth (contains (same_node nat_eq) nodes s) (contains (same_node nat_eq) (distinct (same_node nat_eq) nodes) s)
@@ -79,11 +79,11 @@ module _ (list : List CodeTriple) (shapes : ℕ → Shape) where
   node_turn i t old new at turn before =
       let s : Node ℕ = node_seen t.subject in
       let front : List (Triple ℕ) = triples_seen (take i list) in
-      let first : starts (places_of nat_eq seen s) (0 + i) ≡ not (contains (same_node nat_eq) (map subject_in (take i seen)) s) =
+      let first : starts_with_place (places_of nat_eq seen s) (0 + i) ≡ not (contains (same_node nat_eq) (map subject_in (take i seen)) s) =
       starts_from s 0 i seen (triple_seen t) (seen_at list i t at) ((same_nodes s s).1 refl) in
       let same : 0 + i ≡ i = omega arith in
-      let starting : starts (places_of nat_eq seen s) i ≡ not (contains (same_node nat_eq) (subjects front) s) =
-      ap (starts (places_of nat_eq seen s)) (sym same) ∙ first ∙ ap (λ z. not (contains (same_node nat_eq) (map subject_in z) s)) (take-map triple_seen i list)
+      let starting : starts_with_place (places_of nat_eq seen s) i ≡ not (contains (same_node nat_eq) (subjects front) s) =
+      ap (starts_with_place (places_of nat_eq seen s)) (sym same) ∙ first ∙ ap (λ z. not (contains (same_node nat_eq) (map subject_in z) s)) (take-map triple_seen i list)
       ∙ ap not (among_distinct (map subject_in front) s) in
       let more : subjects (triples_seen (take (i + 1) list)) ≡ with_one (same_node nat_eq) (subjects front) s =
       ap subjects (seen_more list i t at) ∙ ap (distinct (same_node nat_eq)) (map-append subject_in front (triple_seen t ∷ []))

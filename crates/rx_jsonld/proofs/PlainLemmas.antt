@@ -1,12 +1,12 @@
 -- A list's value has no number, the keys of its objects rise, so that each stands once, and it nests six levels deep at most.
-use Rattle.rx_jsonld.proofs.Common.{◌≡◌, ◌∙◌, ℕ, false, List, [], ◌∷◌, map, filter, bytes_eq, codes, Option, Some, None, Ordering, Less, Equal, Greater, nat_cmp, refl, sym, ap, suc, ◌≤◌, arith, not, is_eq, slice_cmp, Chars, Data, number, array, Items, no_items, item, Members, no_members, member, depth, items_depth, members_depth, items_of, Kind, Plain, Tagged, Typed, Node, Blank, Term, Resource, Literal, Triple, rdf_first, Shape, about, object_at, first_cell, cells_at, string_of, id_text, literal_members, term_value, list_value, item_by, item_value, is_empty_list, plain_value, type_of, object_by, said_by, with_all, node_value, tops, jsonld, items_and, behind, with_last, ValuesAreFlat, keys, KeysDiffer}
+use Rattle.rx_jsonld.proofs.Common.{◌≡◌, ◌∙◌, ℕ, false, List, [], ◌∷◌, map, filter, bytes_eq, codes, Option, Some, None, Ordering, Less, Equal, Greater, nat_cmp, refl, sym, ap, suc, ◌≤◌, arith, not, is_eq, slice_cmp, Chars, Data, number, array, Items, no_items, item, Members, no_members, member, depth, items_depth, members_depth, items_of, Kind, Plain, Tagged, Typed, Node, Blank, Term, Resource, Literal, Triple, rdf_first, Shape, about, object_at, first_cell, cells_at, string_of, id_text, literal_members, term_value, list_value, item_by, item_value, is_empty_list, plain_value, type_of, object_by, said_by, with_all, node_value, tops, jsonld, items_and, value_appended, with_last, ValuesAreFlat, keys, KeysDiffer}
 use Rattle.rx_terms.proofs.Common.{match_ordering, by_test, is_eq-slice_cmp}
-use Rattle.rx_json.specs.Plain.{Leads, IsPlain, ArePlain, MembersArePlain}
+use Rattle.rx_json.specs.Plain.{PrecedesMembers, IsPlain, ArePlain, MembersArePlain}
 use Rattle.rx_json.proofs.PlainLemmas.{turned, leads_one, leads_through, no_float}
 
 -- ---- keys that rise
 
-leads_apart : (key : List ℕ) (ms : Members) → Leads key ms → filter (λ other. not (bytes_eq key other)) (keys ms) ≡ keys ms
+leads_apart : (key : List ℕ) (ms : Members) → PrecedesMembers key ms → filter (λ other. not (bytes_eq key other)) (keys ms) ≡ keys ms
 leads_apart key no_members l = refl
 leads_apart key (member other value more) l =
     let apart : bytes_eq key other ≡ false = sym (is_eq-slice_cmp key other) ∙ ap is_eq l.0 in
@@ -36,15 +36,15 @@ items_and_fit n (item first values) value p q =
     let more = items_and_fit n values value (p.0.1, omega (arith, p.1)) q in
     ((p.0.0, more.0), omega (arith, p.1, more.1))
 
-behind_fits : (n : ℕ) (value values : Data) → Fits n value → Fits (suc n) values → Fits (suc n) (behind value values)
+behind_fits : (n : ℕ) (value values : Data) → Fits n value → Fits (suc n) values → Fits (suc n) (value_appended value values)
 behind_fits n value (number m) p q = absurd q.0
 behind_fits n value (array values) p q = let all = items_and_fit n values value (q.0, omega (arith, q.1)) p in (all.0, omega (arith, all.1))
 behind_fits n value _ p q = ((p.0, tt), omega (arith, p.1))
 
-leads_last : (before key : List ℕ) (value : Data) (members : Members) → slice_cmp nat_cmp before key ≡ Less → Leads before members → Leads before (with_last key value members)
+leads_last : (before key : List ℕ) (value : Data) (members : Members) → slice_cmp nat_cmp before key ≡ Less → PrecedesMembers before members → PrecedesMembers before (with_last key value members)
 leads_last before key value no_members c l = (c, tt)
 leads_last before key value (member first values more) c l =
-    leads_one before (slice_cmp nat_cmp key first) (member key (array (item value no_items)) (member first values more)) (member first (behind value values) more) (member first values (with_last key value more))
+    leads_one before (slice_cmp nat_cmp key first) (member key (array (item value no_items)) (member first values more)) (member first (value_appended value values) more) (member first values (with_last key value more))
     (c, (l.0, l.1)) (l.0, l.1) (l.0, leads_last before key value more c l.1)
 
 with_last_fit : (n : ℕ) (key : List ℕ) (value : Data) (members : Members) → Fits n value → MembersFit (suc n) members → MembersFit (suc n) (with_last key value members)
@@ -52,7 +52,7 @@ with_last_fit n key value no_members v p = (((v.0, tt), tt, tt), omega (arith, v
 with_last_fit n key value (member first values more) v p = by (with_last_fit n key value more v (p.0.2, omega (arith, p.1))) (slice_cmp nat_cmp key first) refl
   where
     by : MembersFit (suc n) (with_last key value more) → (o : Ordering) → slice_cmp nat_cmp key first ≡ o
-        → MembersFit (suc n) (match_ordering o (member key (array (item value no_items)) (member first values more)) (member first (behind value values) more) (member first values (with_last key value more)))
+        → MembersFit (suc n) (match_ordering o (member key (array (item value no_items)) (member first values more)) (member first (value_appended value values) more) (member first values (with_last key value more)))
     by ih Less c = (((v.0, tt), (c, leads_through key first more c p.0.1), p.0), omega (arith, v.1, p.1))
     by ih Equal c = let b = behind_fits n value values v (p.0.0, omega (arith, p.1)) in ((b.0, p.0.1, p.0.2), omega (arith, p.1, b.1))
     by ih Greater c = ((p.0.0, leads_last first key value more (turned key first Greater c) p.0.1, ih.0), omega (arith, p.1, ih.1))

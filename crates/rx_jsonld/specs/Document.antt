@@ -7,14 +7,14 @@ use Rattle.rx_model.specs.Common.{colon, low_line, Chars, IsIri, is_lang, distin
 -- ---- syntax
 
 -- 9.2 and 9.5: a node object of an `@id` alone, or a value object
-pub data Item : Type 0 where
-  Reference : Chars → Item
-  Value : Chars → Kind → Item
+pub data NodeOrValue : Type 0 where
+  Reference : Chars → NodeOrValue
+  Value : Chars → Kind → NodeOrValue
 
 -- 9.7: what stands under a key: an item, or a list object
 pub data Object : Type 0 where
-  Single : Item → Object
-  ListObject : List Item → Object
+  Single : NodeOrValue → Object
+  ListObject : List NodeOrValue → Object
 
 -- 9.2: the members of a node object
 pub data Entry : Type 0 where
@@ -26,8 +26,8 @@ pub data Entry : Type 0 where
 abbrev pub NodeObject : Type 0
 NodeObject = List Entry
 
-abbrev pub Document : Type 0
-Document = List NodeObject
+abbrev pub JsonLdDocument : Type 0
+JsonLdDocument = List NodeObject
 
 -- ---- words that have their form
 
@@ -80,7 +80,7 @@ SpellsValue members text Plain = members ≡ one (codes "@value") text
 SpellsValue members text (Tagged tag) = AreTwo members (codes "@language") tag (codes "@value") text
 SpellsValue members text (Typed datatype) = AreTwo members (codes "@type") datatype (codes "@value") text
 
-abbrev pub SpellsItem : Data → Item → Type 0
+abbrev pub SpellsItem : Data → NodeOrValue → Type 0
 SpellsItem value (Reference id) = NamesNode id × (value ≡ object (one (codes "@id") id))
 SpellsItem value (Value text kind) = (members : Members) × (value ≡ object members) × IsFormed kind × SpellsValue members text kind
 
@@ -99,14 +99,14 @@ SpellsEntries no_members (entry ∷ more) = ⊥
 SpellsEntries (member key value rest) [] = ⊥
 SpellsEntries (member key value rest) (entry ∷ more) = SpellsEntry key value entry × SpellsEntries rest more
 
-abbrev pub id_in : Entry → List Chars
-id_in (Id id) = id ∷ []
-id_in (Types types) = []
-id_in (Property predicate objects) = []
+abbrev pub entry_id : Entry → List Chars
+entry_id (Id id) = id ∷ []
+entry_id (Types types) = []
+entry_id (Property predicate objects) = []
 
 abbrev pub ids : List Entry → List Chars
 ids [] = []
-ids (entry ∷ more) = id_in entry ++ ids more
+ids (entry ∷ more) = entry_id entry ++ ids more
 
 abbrev pub keys : Members → List (List ℕ)
 keys no_members = []
@@ -117,7 +117,7 @@ abbrev pub KeysDiffer : Members → Type 0
 KeysDiffer members = distinct bytes_eq (keys members) ≡ keys members
 
 -- a node object has each key once, and one `@id`
-pub record SpellsNode (value : Data) (node : NodeObject) : Type 0 where
+pub record SpellsNodeObject (value : Data) (node : NodeObject) : Type 0 where
   pub members : Members
   pub is_object : value ≡ object members
   pub keys_differ : KeysDiffer members
@@ -126,8 +126,8 @@ pub record SpellsNode (value : Data) (node : NodeObject) : Type 0 where
   pub named : ids node ≡ id ∷ []
 
 -- the value is that of the document
-abbrev pub Spells : Data → Document → Type 0
-Spells value document = SpellsArray SpellsNode value document
+abbrev pub SpellsJsonLd : Data → JsonLdDocument → Type 0
+SpellsJsonLd value document = SpellsArray SpellsNodeObject value document
 
 -- in each of its objects each key stands once
 abbrev mutual
@@ -149,8 +149,8 @@ abbrev mutual
 
 -- law: no object of a document's value has a key twice
 abbrev pub KeysStandOnce : Type 0
-KeysStandOnce = (value : Data) (document : Document) → Spells value document → KeysDifferIn value
+KeysStandOnce = (value : Data) (document : JsonLdDocument) → SpellsJsonLd value document → KeysDifferIn value
 
 -- law: a value is that of at most one document
-abbrev pub SpellsOne : Type 0
-SpellsOne = (value : Data) (xs ys : Document) → Spells value xs → Spells value ys → xs ≡ ys
+abbrev pub JsonLdSpellsOne : Type 0
+JsonLdSpellsOne = (value : Data) (xs ys : JsonLdDocument) → SpellsJsonLd value xs → SpellsJsonLd value ys → xs ≡ ys

@@ -5,15 +5,16 @@ use Rattle.std.specs.Global.{Global}
 use Rattle.serde_json.specs.Data.{Data, null, array, object, Members, no_members, member}
 use Rattle.serde_json.specs.View.{items_of}
 use Rattle.rx_shapes.specs.declared.shapes.Shape.{Shape}
-use Rattle.rx_jsonld.specs.Value.{id_text, object_value, string_of, type_of}
+use Rattle.rx_jsonld.specs.Value.{id_text, object_value, type_of}
+use Rattle.rx_json.specs.Plain.{string_of}
 
 -- the key under which a triple speaks
-abbrev pub key_by : Triple ℕ → Option (Node ℕ) → List ℕ
-key_by t (Some node) = codes "@type"
-key_by t None = encode_utf8_all t.predicate
+abbrev pub member_name_by : Triple ℕ → Option (Node ℕ) → List ℕ
+member_name_by t (Some node) = codes "@type"
+member_name_by t None = encode_utf8_all t.predicate
 
-abbrev pub key_of : Triple ℕ → List ℕ
-key_of t = key_by t (type_of t)
+abbrev pub member_name : Triple ℕ → List ℕ
+member_name t = member_name_by t (type_of t)
 
 -- places under a key
 abbrev pub Group : Type 0

@@ -10,14 +10,14 @@ use Rattle.rx_shapes.specs.Subjects.{object_at}
 -- ---- listed cells, in words
 
 -- a subject and a predicate say that a cell goes on to the next one
-abbrev pub GoesOn : {B : Type 0} → Graph B → Node B → Chars → Type 0
-GoesOn {B} g subject predicate = (b : B) × (subject ≡ Blank b) × Cell g b × (predicate ≡ rdf_rest)
+abbrev pub CellGoesOn : {B : Type 0} → Graph B → Node B → Chars → Type 0
+CellGoesOn {B} g subject predicate = (b : B) × (subject ≡ Blank b) × Cell g b × (predicate ≡ rdf_rest)
 
 -- The cells of a chain whose first one is the object of a triple whose predicate is neither rdf:first nor rdf:type. The first
 -- cell is one to which no cell goes on.
 pub data IsListed {B : Type 0} (g : Graph B) : B → Type 0 where
   first_one : {subject : Node B} {predicate : Chars} {b : B} → g (spo subject predicate (Resource (Blank b))) → Cell g b
-      → ¬ (GoesOn g subject predicate) → ¬ (predicate ≡ rdf_first) → ¬ (predicate ≡ rdf_type) → IsListed g b
+      → ¬ (CellGoesOn g subject predicate) → ¬ (predicate ≡ rdf_first) → ¬ (predicate ≡ rdf_type) → IsListed g b
   later_one : {b c : B} → IsListed g b → g (spo (Blank b) rdf_rest (Resource (Blank c))) → IsListed g c
 
 -- ---- chains of cells

@@ -9,13 +9,13 @@ items_and no_items value = item value no_items
 items_and (item first values) value = item first (items_and values value)
 
 -- a value behind those that a key has
-abbrev pub behind : Data → Data → Data
-behind value (array values) = array (items_and values value)
-behind value other = array (item value no_items)
+abbrev pub value_appended : Data → Data → Data
+value_appended value (array values) = array (items_and values value)
+value_appended value other = array (item value no_items)
 
 -- the members in byte order of their keys, with a value behind those of its key
 abbrev pub with_last : List ℕ → Data → Members → Members
 with_last key value no_members = member key (array (item value no_items)) no_members
 with_last key value (member first values more) =
-    match_ordering (slice_cmp nat_cmp key first) (member key (array (item value no_items)) (member first values more)) (member first (behind value values) more)
+    match_ordering (slice_cmp nat_cmp key first) (member key (array (item value no_items)) (member first values more)) (member first (value_appended value values) more)
     (member first values (with_last key value more))

@@ -1,7 +1,7 @@
 -- The JSON-LD of a list of triples: expanded and flattened form (JSON-LD 1.1, 9; JSON-LD 1.1 Processing Algorithms and API,
 -- 5.1 and 7.1). The order, which cells are listed, and the names of blank nodes are our own choice.
 use Rattle.std.specs.Prelude.{ℕ, Bool, false, not, ◌&&◌, List, [], ◌∷◌, map, filter, length, codes, bytes_eq, encode_utf8_all, Option, Some, None, if◌then◌else◌}
-use Rattle.serde_json.specs.Data.{Data, Members, null, string, array, object, no_members, member}
+use Rattle.serde_json.specs.Data.{Data, Members, null, array, object, no_members, member}
 use Rattle.serde_json.specs.View.{items_of}
 use Rattle.rx_model.specs.Common.{Chars, Kind, Plain, Tagged, Typed, Node, Iri, Blank, Term, Resource, Literal, Triple, rdf_type, rdf_first, rdf_rest, rdf_nil}
 use Rattle.rx_graph.specs.Resources.{resource_of}
@@ -10,11 +10,9 @@ use Rattle.rx_shapes.specs.declared.shapes.Shape.{Shape}
 use Rattle.rx_shapes.specs.Subjects.{about, subjects, object_at}
 use Rattle.rx_jsonld.specs.Members.{with_last}
 use Rattle.rx_jsonld.specs.Lists.{chain, first_cell, cells_at, is_listed}
+use Rattle.rx_json.specs.Plain.{string_of}
 
 -- ---- terms
-
-abbrev pub string_of : Chars → Data
-string_of text = string (encode_utf8_all text)
 
 -- an object of one member
 abbrev pub object_with : List ℕ → Data → Data

@@ -2,7 +2,7 @@
 ghost use Rattle.std.specs.Prelude.{◌≡◌, ℕ, ◌∷◌, ◌++◌, [], IfOk, OnOk};
 ghost use Rattle.rx_model.specs.Seen.{triple_seen, triples_seen};
 ghost use Rattle.rx_shapes.specs.declared.shapes.Shape.{Shape};
-ghost use Rattle.rx_jsonld.specs.Groups.{key_of};
+ghost use Rattle.rx_jsonld.specs.Groups.{member_name};
 ghost use Rattle.rx_jsonld.specs.Places.{with_place, with_places};
 ghost use Rattle.rx_jsonld.specs.Changes.{AreGroups, Files, FilesUnder, StartsUnder};
 
@@ -60,7 +60,7 @@ fn add_place<'a>(
 
 /// The key under which a triple speaks of its subject.
 fn key_of(triple: &Triple) -> &str
-    ensures { result.now ≡ key_of (triple_seen triple.now) }
+    ensures { result.now ≡ member_name (triple_seen triple.now) }
 {
     match type_of(triple) {
         Some(_node) => "@type",

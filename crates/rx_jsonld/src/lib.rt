@@ -3,9 +3,9 @@
 //! Definitions are in `specs/`.
 #![tactic(auto)]
 
-ghost use Rattle.rx_jsonld.specs.Document.{KeysStandOnce, SpellsOne};
+ghost use Rattle.rx_jsonld.specs.Document.{JsonLdSpellsOne, KeysStandOnce};
 ghost use Rattle.rx_jsonld.specs.Laws.{DenotesFormed, ListsCells, ValueDenotes, ValuesAreFlat};
-ghost use Rattle.rx_jsonld.specs.Meaning.{DenotesOne};
+ghost use Rattle.rx_jsonld.specs.Meaning.{JsonLdDenotesOne};
 ghost use Rattle.rx_jsonld.specs.Rows.{RowsHold};
 
 mod chains;
@@ -25,7 +25,7 @@ pub fn rows_hold()
 
 /// A value is that of at most one document.
 pub fn a_value_spells_one()
-    ensures { SpellsOne }
+    ensures { JsonLdSpellsOne }
 {}
 
 /// No object of a document's value has a key twice.
@@ -35,7 +35,7 @@ pub fn keys_stand_once()
 
 /// Two graphs that one value denotes differ in the names of blank nodes alone.
 pub fn a_value_denotes_one()
-    ensures { DenotesOne }
+    ensures { JsonLdDenotesOne }
 {}
 
 /// The triples that a value denotes have IRIs, datatypes and language tags of the form that N-Quads asks.

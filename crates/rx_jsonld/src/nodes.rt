@@ -3,7 +3,7 @@ ghost use Rattle.std.specs.Prelude.{◌≡◌, [], not, ◌&&◌};
 ghost use Rattle.rx_model.specs.Seen.{node_seen, triples_seen};
 ghost use Rattle.rx_shapes.specs.Table.{shape_in};
 ghost use Rattle.rx_jsonld.specs.Lists.{is_listed, listed};
-ghost use Rattle.rx_jsonld.specs.Places.{nodes_added, starts};
+ghost use Rattle.rx_jsonld.specs.Places.{nodes_added, starts_with_place};
 
 use crate::listed::is_listed;
 use rx_graph::{Graph, Nodes};
@@ -20,13 +20,13 @@ pub(crate) fn begins_node(
     subject: &Node,
 ) -> bool
     requires listed { cells.now ≡ nodes_added [] (listed (shape_in shapes.now) (triples_seen graph.now)) }
-    ensures { result ≡ (starts places.now place && not (is_listed (shape_in shapes.now) (triples_seen graph.now) (node_seen subject.now))) }
+    ensures { result ≡ (starts_with_place places.now place && not (is_listed (shape_in shapes.now) (triples_seen graph.now) (node_seen subject.now))) }
 {
     starts(places, place) && !is_listed(graph, shapes, cells, subject)
 }
 
 fn starts(places: &[usize], place: usize) -> bool
-    ensures { result ≡ starts places.now place }
+    ensures { result ≡ starts_with_place places.now place }
 {
     match places {
         [first, ..] => *first == place,

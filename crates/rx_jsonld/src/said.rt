@@ -11,7 +11,8 @@ ghost use Rattle.rx_jsonld.specs.Changes.{Writes, WritesEach};
 ghost use Rattle.rx_jsonld.specs.Groups.{value_said};
 ghost use Rattle.rx_json.specs.Events.{Grows, members_events};
 ghost use Rattle.rx_jsonld.specs.Places.{PlacesAre};
-ghost use Rattle.rx_jsonld.specs.Value.{id_text, item_value, list_from, list_value, literal_members, object_value, object_with, plain_value, string_of, term_value};
+ghost use Rattle.rx_jsonld.specs.Value.{id_text, item_value, list_from, list_value, literal_members, object_value, object_with, plain_value, term_value};
+ghost use Rattle.rx_json.specs.Plain.{string_of};
 
 use crate::chains::{chain, first_cell, object_at};
 use crate::objects::{is_empty_list, type_of};

@@ -3,11 +3,11 @@ use Rattle.std.specs.Prelude.{ℕ, suc, Bool, true, false, List, [], ◌∷◌, 
 use Rattle.rx_terms.specs.Text.{Chars}
 use Rattle.rx_terms.specs.declared.triples.Term.{Term}
 use Rattle.rx_terms.specs.declared.triples.Node.{Node}
-use Rattle.rx_rdfa.specs.Tables.{Table}
+use Rattle.rx_rdfa.specs.Tables.{PredicateTable}
 
 -- the lists of one owner, each with its predicate and its slots in order; a slot without a term is still empty
 abbrev pub Slots : Type 0
-Slots = Table (Option Term)
+Slots = PredicateTable (Option Term)
 
 -- an owner: the subject of its lists, and the lists in order of first slot or touch
 pub record Owned : Type 0 where
@@ -35,8 +35,8 @@ with_lists change owned = record { subject = owned.subject; lists = change owned
 abbrev pub changed : (Slots → Slots) → Owners → ℕ → Owners
 changed change owners number = slice_set owners number (option_map (with_lists change) (open_at owners number))
 
-abbrev pub predicates_of : Slots → List Chars
-predicates_of lists = map (λ row. row.0) lists
+abbrev pub list_predicates : Slots → List Chars
+list_predicates lists = map (λ row. row.0) lists
 
 -- the place of a predicate's list among those of its owner
 abbrev pub place_of : Chars → Slots → ℕ
@@ -72,9 +72,9 @@ trimmed_by None [] = []
 trimmed_by None (o ∷ more) = None ∷ o ∷ more
 trimmed_by (Some owned) more = Some owned ∷ more
 
-abbrev pub trimmed : Owners → Owners
-trimmed [] = []
-trimmed (o ∷ owners) = trimmed_by o (trimmed owners)
+abbrev pub trimmed_tail : Owners → Owners
+trimmed_tail [] = []
+trimmed_tail (o ∷ owners) = trimmed_by o (trimmed_tail owners)
 
 -- there is one, and it is finished
 abbrev pub is_finished : Option (Option Owned) → Bool
@@ -84,4 +84,4 @@ is_finished (Some (Some owned)) = false
 
 -- the owners without the one of that number
 abbrev pub forgotten : Owners → ℕ → Owners
-forgotten owners number = trimmed (slice_set owners number None)
+forgotten owners number = trimmed_tail (slice_set owners number None)

@@ -4,10 +4,10 @@ use Rattle.rx_terms.specs.Text.{Chars}
 use Rattle.rx_terms.specs.declared.triples.Term.{Term}
 use Rattle.rx_lists.specs.Owners.{Slots}
 
-abbrev pub rows : List Chars → List (List (Option Term)) → Slots
-rows [] slots = []
-rows (p ∷ predicates) [] = []
-rows (p ∷ predicates) (s ∷ slots) = (p, s) ∷ rows predicates slots
+abbrev pub predicate_rows : List Chars → List (List (Option Term)) → Slots
+predicate_rows [] slots = []
+predicate_rows (p ∷ predicates) [] = []
+predicate_rows (p ∷ predicates) (s ∷ slots) = (p, s) ∷ predicate_rows predicates slots
 
 -- the first place at which the predicate stands, else the length
 abbrev pub first_place : Chars → List Chars → ℕ

@@ -2,15 +2,10 @@
 ghost use Rattle.std.specs.Prelude.{◌≡◌, IfOk, true};
 ghost use Rattle.rx_model.specs.Common.{list_all, is_ascii, IsIri, rdf_first, rdf_rest, rdf_nil};
 
+use rx_model::{RDF_FIRST, RDF_NIL, RDF_REST};
 use rx_terms::{Iri, NoMemory};
 use std::alloc::Global;
 use std::marker::Model;
-
-const FIRST: &str = "http://www.w3.org/1999/02/22-rdf-syntax-ns#first";
-
-const REST: &str = "http://www.w3.org/1999/02/22-rdf-syntax-ns#rest";
-
-const NIL: &str = "http://www.w3.org/1999/02/22-rdf-syntax-ns#nil";
 
 /// The IRIs that any list needs, made once for all of them. A contract sees nothing of the value, for it is always the
 /// same.
@@ -35,9 +30,9 @@ impl CellIris {
     /// Makes the IRIs.
     pub(crate) fn new(alloc: Global) -> Result<CellIris, NoMemory> {
         Ok(CellIris {
-            first: iri(alloc, FIRST)?,
-            rest: iri(alloc, REST)?,
-            nil: iri(alloc, NIL)?,
+            first: iri(alloc, RDF_FIRST)?,
+            rest: iri(alloc, RDF_REST)?,
+            nil: iri(alloc, RDF_NIL)?,
         })
     }
 

@@ -2,7 +2,7 @@
 ghost use Rattle.std.specs.Prelude.{◌≡◌, slice_get, ◌-◌, ◌+◌, ◌<◌, ◌^◌, [], ◌∷◌, ◌++◌, length, true, not, OnOk, OnErr, IfOk, IsTrue, ◌↔◌, Some, None, slice_set};
 ghost use Rattle.rx_rdfa.specs.Common.{triples_seen, put};
 ghost use Rattle.rx_lists.specs.Cells.{finished_cells, items_seen, size};
-ghost use Rattle.rx_lists.specs.Owners.{is_finished, forgotten, owned, changed, lists_of, open_at, trimmed, with_term};
+ghost use Rattle.rx_lists.specs.Owners.{is_finished, forgotten, owned, changed, lists_of, open_at, trimmed_tail, with_term};
 ghost use Rattle.rx_lists.specs.SlotIds.{slot_in};
 
 use crate::cell_iris::CellIris;
@@ -153,7 +153,7 @@ impl Lists {
     /// Whether no finished owner is the last: then it is known which number the next one gets.
     pub fn ends_open(&self) -> bool
         ensures open { result ≡ not (is_finished (slice_get self.now (length self.now - 1))) }
-        ensures trimmed { result ≡ true → trimmed self.now ≡ self.now }
+        ensures trimmed { result ≡ true → trimmed_tail self.now ≡ self.now }
     {
         !is_last_finished(&self.owners)
     }
@@ -196,7 +196,7 @@ fn nothing(alloc: Global, next_blank: u64) -> Finished
 
 /// Drops an owner. It is mostly the last one, which is dropped where it lies, with no empty one written over it.
 fn drop_owner(owners: &mut Vec<Option<OwnerLists>>, number: usize)
-    ensures { trimmed owners.new.items ≡ trimmed (slice_set owners.old.items number None) }
+    ensures { trimmed_tail owners.new.items ≡ trimmed_tail (slice_set owners.old.items number None) }
 {
     if number >= owners.len() {
         return;
@@ -210,7 +210,7 @@ fn drop_owner(owners: &mut Vec<Option<OwnerLists>>, number: usize)
 
 /// Drops the finished owners at the end.
 fn trim(owners: &mut Vec<Option<OwnerLists>>)
-    ensures { owners.new.items ≡ trimmed owners.old.items }
+    ensures { owners.new.items ≡ trimmed_tail owners.old.items }
 {
     while is_last_finished(owners) {
         owners.pop();

@@ -3,7 +3,7 @@ ghost use Rattle.std.specs.Prelude.{◌≡◌, ◌+◌, ◌^◌, slice_index_or,
 ghost use Rattle.rx_rdfa.specs.Common.{put, node_seen, triples_seen};
 ghost use Rattle.rx_lists.specs.Cells.{cells_of, items_seen, size};
 ghost use Rattle.rx_lists.specs.Rows.{FoundAt, first_slots};
-ghost use Rattle.rx_lists.specs.Owners.{owned, with_slot, predicates_of, with_lists, with_term, place_of, slots_of, slots_at};
+ghost use Rattle.rx_lists.specs.Owners.{owned, with_slot, list_predicates, with_lists, with_term, place_of, slots_of, slots_at};
 
 use crate::cell_iris::CellIris;
 use crate::cells::push_list;
@@ -28,9 +28,9 @@ impl Model for OwnerLists {
 
     ghost Value = { Owned };
 
-    ghost use Rattle.rx_lists.specs.Rows.{rows};
+    ghost use Rattle.rx_lists.specs.Rows.{predicate_rows};
 
-    ghost view = { λ owner. record { subject = owner.subject; lists = rows owner.predicates owner.slots } };
+    ghost view = { λ owner. record { subject = owner.subject; lists = predicate_rows owner.predicates owner.slots } };
 
     ghost invariant = { λ owner. length owner.predicates ≡ length owner.slots };
 }
@@ -159,14 +159,14 @@ impl OwnerLists {
 
     /// The place of the predicate's list.
     fn find(&self, predicate: &Iri) -> Option<usize>
-        ensures { FoundAt predicate.now (predicates_of self.now.lists) result }
+        ensures { FoundAt predicate.now (list_predicates self.now.lists) result }
     {
         self.predicates.get_index_of(predicate)
     }
 
     /// Adds the list of a predicate that has none, with one empty slot or with none.
     fn add(&mut self, predicate: &Iri, with_slot: bool) -> Result<(), NoMemory>
-        requires { FoundAt predicate.now (predicates_of self.old.lists) None }
+        requires { FoundAt predicate.now (list_predicates self.old.lists) None }
         ensures ok { OnOk result (self.new ≡ owned self.old.subject (self.old.lists ++ (predicate.now, first_slots with_slot) ∷ [])) }
         ensures err { OnErr result (self.new ≡ self.old) }
     {

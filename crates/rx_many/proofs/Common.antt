@@ -10,13 +10,13 @@ pub use Rattle.rx_graph.proofs.SetLemmas.{any_seen, insert_seen, one_more, seen_
 pub use Rattle.rx_graph.specs.Numbering.{numbers_to}
 pub use Rattle.rx_many.specs.Blank.{has_blank, is_blank_node, is_blank_term}
 pub use Rattle.rx_many.specs.Dataset.{DenotesPages, Gives, GivesQuad, HasBlank}
-pub use Rattle.rx_many.specs.Lines.{Line, PageBlank, at_place, comment, kept, kept_after, line_blanks, lines_by, lines_from, lines_of, numbered_lines, rename_line, same_blank, same_line, statement, statement_at, table}
+pub use Rattle.rx_many.specs.Lines.{PageBlank, QuadLine, at_place, blank_table, comment, distinct_lines, kept_after, line_blanks, lines_by, lines_from, lines_of, numbered_lines, rename_line, same_blank, same_line, statement, statement_at}
 pub use Rattle.rx_many.specs.Names.{AreApart, Notes, name_of}
-pub use Rattle.rx_many.specs.Numbering.{Numbers, number_at, numbers_of}
-pub use Rattle.rx_many.specs.Pages.{Judgement, Page, accepted, accepted_page, refused}
+pub use Rattle.rx_many.specs.Numbering.{BlankNumbers, blank_numbers, number_at}
+pub use Rattle.rx_many.specs.Pages.{JudgedPage, Judgement, accepted, accepted_page, refused}
 pub use Rattle.rx_many.specs.Seen.{page_seen, statement_seen}
-pub use Rattle.rx_many.specs.Standing.{AreBefore, AreNew, ComeLast, DocumentStands, Holds, IsAdded, PageStands, Spells, Stands, Tells, WritableComment, WritableLine}
-pub use Rattle.rx_many.specs.Writing.{comment_text, comment_with, line_text, text_of}
+pub use Rattle.rx_many.specs.Standing.{AreBefore, AreNew, ComeLast, DocumentStands, HoldsShared, IsAdded, LinesStand, PageStands, SpellsLines, TellsShared, WritableComment, WritableLine}
+pub use Rattle.rx_many.specs.Writing.{comment_text, comment_with, dataset_line, dataset_text}
 pub use Rattle.rx_nquads.proofs.Cuts.{lacks, lacks_any, lacks_append}
 pub use Rattle.rx_pieces.proofs.Adding.{all_ascii, iri_of}
 pub use Rattle.rx_pieces.specs.Writable.{WritableText, WritableTriple}

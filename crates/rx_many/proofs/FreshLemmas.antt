@@ -1,5 +1,5 @@
 -- What a page states in a graph of its own is in no line before.
-use Rattle.rx_many.proofs.Common.{◌≡◌, ℕ, zero, suc, ◌+◌, Bool, true, false, cond, List, [], ◌∷◌, ◌++◌, map, filter, flat_map, take, drop, slice_get, Some, refl, sym, ap, ap₂, ◌∙◌, inl, inr, subst, true≢false, nat_eq, append_assoc, not, take-append-drop, map-append, Chars, Among, IsExact, contains, distinct, Node, Iri, Blank, Term, Resource, Literal, Triple, same_triple, blank_of_node, blank_of_term, blanks_of, place_in, rename_node, rename_term, rename, triple_seen, triples_seen, exact_numbers, exact_triples, without_fragment, seen_more, Line, PageBlank, comment, statement, statement_at, at_place, lines_by, lines_of, lines_from, line_blanks, same_blank, table, rename_line, same_line, numbered_lines, name_of, Judgement, refused, accepted, page_seen, AreNew}
+use Rattle.rx_many.proofs.Common.{◌≡◌, ℕ, zero, suc, ◌+◌, Bool, true, false, cond, List, [], ◌∷◌, ◌++◌, map, filter, flat_map, take, drop, slice_get, Some, refl, sym, ap, ap₂, ◌∙◌, inl, inr, subst, true≢false, nat_eq, append_assoc, not, take-append-drop, map-append, Chars, Among, IsExact, contains, distinct, Node, Iri, Blank, Term, Resource, Literal, Triple, same_triple, blank_of_node, blank_of_term, blanks_of, place_in, rename_node, rename_term, rename, triple_seen, triples_seen, exact_numbers, exact_triples, without_fragment, seen_more, QuadLine, PageBlank, comment, statement, statement_at, at_place, lines_by, lines_of, lines_from, line_blanks, same_blank, blank_table, rename_line, same_line, numbered_lines, name_of, Judgement, refused, accepted, page_seen, AreNew}
 use Rattle.rx_model.proofs.Common.{untrue, or_cases, false_unless, Among_cases, Among_left, Among_right, Among_map, Among_of_map, Among_flat_map, Among_of_filter, Among_distinct, place_tells}
 use Rattle.rx_terms.specs.declared.triples.Triple.{Triple as CodeTriple}
 use Rattle.rx_many.specs.declared.pages.Page.{Page as CodePage}
@@ -28,28 +28,28 @@ module _ {A B : Type 0} (to : A → B) where
       let p = ap (λ (x : Triple B). x.predicate) e in
       λ i. record { subject = s i; predicate = p i; object = o i }
 
-  line_apart : (x l : Line A) → ((a b : A) → Among (line_blanks x) a → Among (line_blanks l) b → to a ≡ to b → a ≡ b) → rename_line to x ≡ rename_line to l → x ≡ l
+  line_apart : (x l : QuadLine A) → ((a b : A) → Among (line_blanks x) a → Among (line_blanks l) b → to a ≡ to b → a ≡ b) → rename_line to x ≡ rename_line to l → x ≡ l
   line_apart (comment a f) (comment b g) one e = cc
   line_apart (statement n t) (statement m u) one e = ap₂ statement (cc) (triple_apart t u one (cc))
   line_apart x l one e = cc
 
-pub contained : (lines : List (Line ℕ)) (x : Line ℕ) → contains same_line lines x ≡ true → Among lines x
+pub contained : (lines : List (QuadLine ℕ)) (x : QuadLine ℕ) → contains same_line lines x ≡ true → Among lines x
 contained [] x h = absurd (true≢false (sym h))
 contained (y ∷ lines) x h = elim (or_cases (same_line y x) (contains same_line lines x) h) [ inl e ↦ inl (alike y x e) | inr k ↦ inr (contained lines x k) ]
 
 -- a line that isn't there has no other number's line
-module _ (lines : List (Line PageBlank)) (l : Line PageBlank) where
-  in_table : (x : Line PageBlank) → Among (lines ++ l ∷ []) x → (b : PageBlank) → Among (line_blanks x) b → Among (table (lines ++ l ∷ [])) b
+module _ (lines : List (QuadLine PageBlank)) (l : QuadLine PageBlank) where
+  in_table : (x : QuadLine PageBlank) → Among (lines ++ l ∷ []) x → (b : PageBlank) → Among (line_blanks x) b → Among (blank_table (lines ++ l ∷ [])) b
   in_table x m b h = Among_distinct same_blank exact_blanks (flat_map line_blanks (lines ++ l ∷ [])) b (Among_flat_map line_blanks (lines ++ l ∷ []) x b m h)
 
-  pub still_new : (Among lines l → ⊥) → contains same_line (numbered_lines lines) (rename_line (place_in same_blank (table (lines ++ l ∷ []))) l) ≡ false
+  pub still_new : (Among lines l → ⊥) → contains same_line (numbered_lines lines) (rename_line (place_in same_blank (blank_table (lines ++ l ∷ []))) l) ≡ false
   still_new new =
-      let to : PageBlank → ℕ = place_in same_blank (table (lines ++ l ∷ [])) in
+      let to : PageBlank → ℕ = place_in same_blank (blank_table (lines ++ l ∷ [])) in
       false_unless (contains same_line (numbered_lines lines) (rename_line to l))
-      (λ h. let s = Among_of_map (rename_line to) lines (rename_line to l) (subst (λ (z : List (Line ℕ)). Among z (rename_line to l)) (numbers_stay lines l) (contained (numbered_lines lines) (rename_line to l) h)) in
-      new (subst (λ (z : Line PageBlank). Among lines z)
+      (λ h. let s = Among_of_map (rename_line to) lines (rename_line to l) (subst (λ (z : List (QuadLine ℕ)). Among z (rename_line to l)) (numbers_stay lines l) (contained (numbered_lines lines) (rename_line to l) h)) in
+      new (subst (λ (z : QuadLine PageBlank). Among lines z)
       (line_apart to s.0 l
-      (λ a b m n. place_tells same_blank exact_blanks (table (lines ++ l ∷ [])) a b (in_table s.0 (Among_left lines (l ∷ []) s.0 s.1) a m) (in_table l (Among_right lines (l ∷ []) l (inl refl)) b n))
+      (λ a b m n. place_tells same_blank exact_blanks (blank_table (lines ++ l ∷ [])) a b (in_table s.0 (Among_left lines (l ∷ []) s.0 s.1) a m) (in_table l (Among_right lines (l ∷ []) l (inl refl)) b n))
       s.2)
       s.1))
 
@@ -110,14 +110,14 @@ module _ (place : ℕ) (name : Chars) where
       (subst (λ (z : Triple ℕ). Among (triples_seen (take i list)) z) (same_statement s.0 (triple_seen t) s.2) s.1)
 
   -- where those of the page are new, the one at a place is new behind those before it
-  pub next_new : (shared : List Chars) (lines : List (Line PageBlank)) (list : List CodeTriple) (i : ℕ) (t : CodeTriple) → slice_get list i ≡ Some t
+  pub next_new : (shared : List Chars) (lines : List (QuadLine PageBlank)) (list : List CodeTriple) (i : ℕ) (t : CodeTriple) → slice_get list i ≡ Some t
       → distinct (same_triple nat_eq) (triples_seen list) ≡ triples_seen list → AreNew shared lines (map (statement_at place name) (triples_seen list))
       → AreNew shared (lines ++ map (statement_at place name) (triples_seen (take i list))) (statement_at place name (triple_seen t) ∷ [])
   next_new shared lines list i t at once new other u own (inr m) k = m
   next_new shared lines list i t at once new other u own (inl e) k =
       elim (Among_cases lines (map (statement_at place name) (triples_seen (take i list))) (statement other u) k) [
-        | inl h ↦ new other u own (subst (λ (z : Line PageBlank). Among (map (statement_at place name) (triples_seen list)) z) e there) h
-        | inr h ↦ first_there list i t at once (subst (λ (z : Line PageBlank). Among (map (statement_at place name) (triples_seen (take i list))) z) (sym e) h)
+        | inl h ↦ new other u own (subst (λ (z : QuadLine PageBlank). Among (map (statement_at place name) (triples_seen list)) z) e there) h
+        | inr h ↦ first_there list i t at once (subst (λ (z : QuadLine PageBlank). Among (map (statement_at place name) (triples_seen (take i list))) z) (sym e) h)
       ]
     where
       there : Among (map (statement_at place name) (triples_seen list)) (statement_at place name (triple_seen t))

@@ -1,5 +1,5 @@
 -- Blank nodes of one page behind those of the pages before it.
-use Rattle.rx_many.proofs.Common.{◌≡◌, ◌∙◌, ℕ, suc, ◌+◌, ◌<◌, ◌≤◌, Bool, true, false, List, [], ◌∷◌, ◌++◌, map, length, refl, sym, ap, ap₂, nat_eq, arith, length-append, append-nil, cond, ◌||◌, ◌&&◌, if◌then◌else◌, map-append, length-map, contains, with_one, with_all, place_in, blank_of_node, rename_node, exact_numbers, Node, contains_append, place_append, place_behind, one_behind, kept_all, has_all, same_node_by, numbers_to, PageBlank, at_place, same_blank, Numbers, number_at, numbers_of}
+use Rattle.rx_many.proofs.Common.{◌≡◌, ◌∙◌, ℕ, suc, ◌+◌, ◌<◌, ◌≤◌, Bool, true, false, List, [], ◌∷◌, ◌++◌, map, length, refl, sym, ap, ap₂, nat_eq, arith, length-append, append-nil, cond, ◌||◌, ◌&&◌, if◌then◌else◌, map-append, length-map, contains, with_one, with_all, place_in, blank_of_node, rename_node, exact_numbers, Node, contains_append, place_append, place_behind, one_behind, kept_all, has_all, same_node_by, numbers_to, PageBlank, at_place, same_blank, BlankNumbers, number_at, blank_numbers}
 use Rattle.rx_terms.specs.declared.triples.Blank.{Blank as CodeBlank}
 use Rattle.rx_graph.proofs.NumberedLemmas.{below, above, size, own_place}
 
@@ -57,15 +57,15 @@ module _ (place : ℕ) where
 
 -- ---- the code's blank nodes
 
-pub here_length : (n : ℕ) (others : List CodeBlank) → length (numbers_to n ++ numbers_of others) ≡ n + length others
-here_length n others = length-append (numbers_to n) (numbers_of others) ∙ ap₂ ◌+◌ (size n) (length-map others (λ (b : CodeBlank). b.0))
+pub here_length : (n : ℕ) (others : List CodeBlank) → length (numbers_to n ++ blank_numbers others) ≡ n + length others
+here_length n others = length-append (numbers_to n) (blank_numbers others) ∙ ap₂ ◌+◌ (size n) (length-map others (λ (b : CodeBlank). b.0))
 
-pub no_others : (others : List CodeBlank) → length others ≡ 0 → numbers_of others ≡ []
+pub no_others : (others : List CodeBlank) → length others ≡ 0 → blank_numbers others ≡ []
 no_others [] e = refl
 no_others (b ∷ others) e = absurd (omega (arith, e))
 
 -- what a subject is renamed to stays
-pub subject_stays : (mid new : Numbers) (old more : List ℕ) (n : Node ℕ) → new.before ≡ mid.before → mid.here ≡ with_all nat_eq old (blank_of_node n) → new.here ≡ with_all nat_eq mid.here more
+pub subject_stays : (mid new : BlankNumbers) (old more : List ℕ) (n : Node ℕ) → new.before ≡ mid.before → mid.here ≡ with_all nat_eq old (blank_of_node n) → new.here ≡ with_all nat_eq mid.here more
     → rename_node (number_at mid) n ≡ rename_node (number_at new) n
 subject_stays mid new old more n same e f = same_node_by (number_at mid) (number_at new) n
     (λ b m. ap₂ ◌+◌ (sym same)

@@ -1,5 +1,5 @@
 -- The keys of the code's sets, and what they are in the model.
-use Rattle.rx_many.proofs.Common.{length-map, ◌≡◌, ℕ, Bool, true, false, List, [], ◌∷◌, length, slice_get, Some, option_map, map, suc, refl, sym, ap, ap₂, ◌∙◌, rules, nat_eq, bytes_eq, arith, true≢false, not, slice_get_within, Chars, IsExact, contains, with_one, Triple, same_triple, triple_seen, exact_numbers, exact_triples, insert_key, any_seen, insert_seen, Line, PageBlank, comment, statement, same_blank, same_line, statement_seen, IsAdded}
+use Rattle.rx_many.proofs.Common.{length-map, ◌≡◌, ℕ, Bool, true, false, List, [], ◌∷◌, length, slice_get, Some, option_map, map, suc, refl, sym, ap, ap₂, ◌∙◌, rules, nat_eq, bytes_eq, arith, true≢false, not, slice_get_within, Chars, IsExact, contains, with_one, Triple, same_triple, triple_seen, exact_numbers, exact_triples, insert_key, any_seen, insert_seen, QuadLine, PageBlank, comment, statement, same_blank, same_line, statement_seen, IsAdded}
 use Rattle.rx_model.proofs.Common.{list_any, slice_get-map, same_truth, untrue, and_from, and_left, and_right, exact_texts}
 use Rattle.rx_model.proofs.Seen.{triple_tells}
 use Rattle.rx_many.specs.declared.statements.Statement.{Statement}
@@ -19,7 +19,7 @@ exact_blanks a b = (
 -- ---- statements
 
 -- lines that are the same are equal
-pub alike : (a b : Line ℕ) → same_line a b ≡ true → a ≡ b
+pub alike : (a b : QuadLine ℕ) → same_line a b ≡ true → a ≡ b
 alike (statement n t) (statement m u) h =
     let name : n ≡ m = (exact_texts n m).0 (and_left (bytes_eq n m) (same_triple nat_eq t u) h) in
     let triple : t ≡ u = (exact_triples nat_eq exact_numbers t u).0 (and_right (bytes_eq n m) (same_triple nat_eq t u) h) in

@@ -1,5 +1,5 @@
 -- A document that grows by one line.
-use Rattle.rx_many.proofs.Common.{◌≡◌, ℕ, suc, zero, ◌+◌, Bool, true, false, List, [], ◌∷◌, ◌++◌, map, flat_map, take, length, slice_get, Some, refl, sym, ap, ap₂, ◌∙◌, inl, inr, subst, append_assoc, append-nil, arith, ◌||◌, if◌then◌else◌, map-append, Chars, Among, contains, distinct, with_one, with_all, Triple, place_in, triple_seen, triples_seen, encode_utf8_all, Fault, seen_more, all_distinct, place_stays, same_triple_by, WritableTriple, has_blank, Line, PageBlank, comment, statement, statement_at, lines_of, lines_from, line_blanks, same_blank, table, rename_line, numbered_lines, same_line, kept_after, kept, page_seen, WritableComment, WritableLine, Spells, Holds, Stands, DocumentStands, PageStands, line_text, text_of}
+use Rattle.rx_many.proofs.Common.{◌≡◌, ℕ, suc, zero, ◌+◌, Bool, true, false, List, [], ◌∷◌, ◌++◌, map, flat_map, take, length, slice_get, Some, refl, sym, ap, ap₂, ◌∙◌, inl, inr, subst, append_assoc, append-nil, arith, ◌||◌, if◌then◌else◌, map-append, Chars, Among, contains, distinct, with_one, with_all, Triple, place_in, triple_seen, triples_seen, encode_utf8_all, Fault, seen_more, all_distinct, place_stays, same_triple_by, WritableTriple, has_blank, QuadLine, PageBlank, comment, statement, statement_at, lines_of, lines_from, line_blanks, same_blank, blank_table, rename_line, numbered_lines, same_line, kept_after, distinct_lines, page_seen, WritableComment, WritableLine, SpellsLines, HoldsShared, LinesStand, DocumentStands, PageStands, dataset_line, dataset_text}
 use Rattle.std.proofs.lemmas.List.Concat.{flat_map-append}
 use Rattle.rx_model.proofs.Common.{by_test, encodes-append, or-true, or-false, Among_cases, Among_left, Among_right, false_unless}
 use Rattle.rx_terms.specs.declared.triples.Triple.{Triple as CodeTriple}
@@ -19,43 +19,43 @@ flat_more f xs x = flat_map-append f xs (x ∷ []) ∙ ap (λ z. flat_map f xs +
 -- ---- what is kept of lines
 
 -- a line, unless it states what an earlier one does
-abbrev pub unless : Bool → Line ℕ → List (Line ℕ)
+abbrev pub unless : Bool → QuadLine ℕ → List (QuadLine ℕ)
 unless there line = if there then [] else line ∷ []
 
-pub kept_more : (earlier lines : List (Line ℕ)) (x : Line ℕ) → kept_after earlier (lines ++ x ∷ []) ≡ kept_after earlier lines ++ unless (contains same_line (earlier ++ lines) x) x
+pub kept_more : (earlier lines : List (QuadLine ℕ)) (x : QuadLine ℕ) → kept_after earlier (lines ++ x ∷ []) ≡ kept_after earlier lines ++ unless (contains same_line (earlier ++ lines) x) x
 kept_more earlier [] x = append-nil (unless (contains same_line earlier x) x) ∙ ap (λ z. unless (contains same_line z x) x) (sym (append-nil earlier))
 kept_more earlier (y ∷ lines) x =
     ap (λ z. unless (contains same_line earlier y) y ++ z) (kept_more (earlier ++ y ∷ []) lines x)
     ∙ ap (λ z. unless (contains same_line earlier y) y ++ (kept_after (earlier ++ y ∷ []) lines ++ unless (contains same_line z x) x)) (append_assoc earlier (y ∷ []) lines)
     ∙ sym (append_assoc (unless (contains same_line earlier y) y) (kept_after (earlier ++ y ∷ []) lines) (unless (contains same_line (earlier ++ y ∷ lines) x) x))
 
-module _ (text : List ℕ) (lines : List (Line ℕ)) (k : Spells text lines) (x : Line ℕ) where
+module _ (text : List ℕ) (lines : List (QuadLine ℕ)) (k : SpellsLines text lines) (x : QuadLine ℕ) where
   -- the line states what an earlier one does
-  spells_old : contains same_line lines x ≡ true → Spells text (lines ++ x ∷ [])
+  spells_old : contains same_line lines x ≡ true → SpellsLines text (lines ++ x ∷ [])
   spells_old there =
-      let same : kept (lines ++ x ∷ []) ≡ kept lines = kept_more [] lines x ∙ ap (λ b. kept lines ++ unless b x) there ∙ append-nil (kept lines) in
+      let same : distinct_lines (lines ++ x ∷ []) ≡ distinct_lines lines = kept_more [] lines x ∙ ap (λ b. distinct_lines lines ++ unless b x) there ∙ append-nil (distinct_lines lines) in
       record {
-        spelled = k.spelled ∙ ap (λ z. encode_utf8_all (flat_map line_text z)) (sym same);
-        writable = λ line m. k.writable line (subst (λ (z : List (Line ℕ)). Among z line) same m);
+        spelled = k.spelled ∙ ap (λ z. encode_utf8_all (flat_map dataset_line z)) (sym same);
+        writable = λ line m. k.writable line (subst (λ (z : List (QuadLine ℕ)). Among z line) same m);
       }
 
   -- it is written
-  spells_new : (next : List ℕ) → contains same_line lines x ≡ false → next ≡ text ++ encode_utf8_all (line_text x) → WritableLine x → Spells next (lines ++ x ∷ [])
+  spells_new : (next : List ℕ) → contains same_line lines x ≡ false → next ≡ text ++ encode_utf8_all (dataset_line x) → WritableLine x → SpellsLines next (lines ++ x ∷ [])
   spells_new next new e w =
-      let same : kept (lines ++ x ∷ []) ≡ kept lines ++ x ∷ [] = kept_more [] lines x ∙ ap (λ b. kept lines ++ unless b x) new in
+      let same : distinct_lines (lines ++ x ∷ []) ≡ distinct_lines lines ++ x ∷ [] = kept_more [] lines x ∙ ap (λ b. distinct_lines lines ++ unless b x) new in
       record {
         spelled =
-            e ∙ ap (λ z. z ++ encode_utf8_all (line_text x)) k.spelled
-            ∙ sym (encodes-append (text_of lines) (line_text x)) ∙ ap encode_utf8_all (sym (flat_more line_text (kept lines) x))
-            ∙ ap (λ z. encode_utf8_all (flat_map line_text z)) (sym same);
-        writable = λ line m. elim (Among_cases (kept lines) (x ∷ []) line (subst (λ (z : List (Line ℕ)). Among z line) same m)) [
+            e ∙ ap (λ z. z ++ encode_utf8_all (dataset_line x)) k.spelled
+            ∙ sym (encodes-append (dataset_text lines) (dataset_line x)) ∙ ap encode_utf8_all (sym (flat_more dataset_line (distinct_lines lines) x))
+            ∙ ap (λ z. encode_utf8_all (flat_map dataset_line z)) (sym same);
+        writable = λ line m. elim (Among_cases (distinct_lines lines) (x ∷ []) line (subst (λ (z : List (QuadLine ℕ)). Among z line) same m)) [
           | inl h ↦ k.writable line h
           | inr h ↦ elim h [ inl e ↦ subst WritableLine e w | inr n ↦ absurd n ]
         ];
       }
 
-module _ (shared : List Chars) (statements lines : List (Line ℕ)) (k : Holds shared statements lines) (x : Line ℕ) where
-  holds_old : contains same_line statements x ≡ true → Holds shared statements (lines ++ x ∷ [])
+module _ (shared : List Chars) (statements lines : List (QuadLine ℕ)) (k : HoldsShared shared statements lines) (x : QuadLine ℕ) where
+  holds_old : contains same_line statements x ≡ true → HoldsShared shared statements (lines ++ x ∷ [])
   holds_old there name t m n = go (same_line x (statement name t)) refl ∙ sym (contains_both same_line lines (x ∷ []) (statement name t))
     where
       go : (b : Bool) → same_line x (statement name t) ≡ b → contains same_line statements (statement name t) ≡ (contains same_line lines (statement name t) || (same_line x (statement name t) || false))
@@ -64,13 +64,13 @@ module _ (shared : List Chars) (statements lines : List (Line ℕ)) (k : Holds s
           ap (contains same_line statements) (sym is) ∙ there ∙ sym (ap (λ b. contains same_line lines (statement name t) || (b || false)) e ∙ or-true (contains same_line lines (statement name t)))
       go false e = k name t m n ∙ sym (ap (λ b. contains same_line lines (statement name t) || (b || false)) e ∙ or-false (contains same_line lines (statement name t)))
 
-  holds_new : Holds shared (statements ++ x ∷ []) (lines ++ x ∷ [])
+  holds_new : HoldsShared shared (statements ++ x ∷ []) (lines ++ x ∷ [])
   holds_new name t m n =
       contains_both same_line statements (x ∷ []) (statement name t) ∙ ap (λ b. b || (same_line x (statement name t) || false)) (k name t m n)
       ∙ sym (contains_both same_line lines (x ∷ []) (statement name t))
 
   -- it is in none of these graphs
-  holds_other : ((name : Chars) (t : Triple ℕ) → Among shared name → has_blank t ≡ false → same_line x (statement name t) ≡ false) → Holds shared statements (lines ++ x ∷ [])
+  holds_other : ((name : Chars) (t : Triple ℕ) → Among shared name → has_blank t ≡ false → same_line x (statement name t) ≡ false) → HoldsShared shared statements (lines ++ x ∷ [])
   holds_other other name t m n =
       k name t m n
       ∙ sym (contains_both same_line lines (x ∷ []) (statement name t) ∙ ap (λ b. contains same_line lines (statement name t) || (b || false)) (other name t m n) ∙ or-false (contains same_line lines (statement name t)))
@@ -84,67 +84,67 @@ in_own shared name u own other t m n = false_unless (same_line (statement name u
     own (subst (λ (z : Chars). Among shared z) names m) (ap has_blank (sym triples) ∙ n))
 
 -- no line is the same as a comment
-no_comment : (lines : List (Line ℕ)) (address : Chars) (fault : Fault) → contains same_line lines (comment address fault) ≡ false
+no_comment : (lines : List (QuadLine ℕ)) (address : Chars) (fault : Fault) → contains same_line lines (comment address fault) ≡ false
 no_comment [] address fault = refl
 no_comment (statement n t ∷ lines) address fault = no_comment lines address fault
 no_comment (comment a f ∷ lines) address fault = no_comment lines address fault
 
 -- ---- numbers
 
-pub table_more : (lines : List (Line PageBlank)) (l : Line PageBlank) → with_all same_blank (table lines) (line_blanks l) ≡ table (lines ++ l ∷ [])
+pub table_more : (lines : List (QuadLine PageBlank)) (l : QuadLine PageBlank) → with_all same_blank (blank_table lines) (line_blanks l) ≡ blank_table (lines ++ l ∷ [])
 table_more lines l = all_distinct same_blank exact_blanks (flat_map line_blanks lines) (line_blanks l) ∙ ap (distinct same_blank) (sym (flat_more line_blanks lines l))
 
-line_stays : (p q : PageBlank → ℕ) (l : Line PageBlank) → ((b : PageBlank) → Among (line_blanks l) b → p b ≡ q b) → rename_line p l ≡ rename_line q l
+line_stays : (p q : PageBlank → ℕ) (l : QuadLine PageBlank) → ((b : PageBlank) → Among (line_blanks l) b → p b ≡ q b) → rename_line p l ≡ rename_line q l
 line_stays p q (comment a f) h = refl
 line_stays p q (statement n t) h = ap (statement n) (same_triple_by p q t h)
 
-lines_stay : (p q : PageBlank → ℕ) (lines : List (Line PageBlank)) → ((b : PageBlank) → Among (flat_map line_blanks lines) b → p b ≡ q b) → map (rename_line p) lines ≡ map (rename_line q) lines
+lines_stay : (p q : PageBlank → ℕ) (lines : List (QuadLine PageBlank)) → ((b : PageBlank) → Among (flat_map line_blanks lines) b → p b ≡ q b) → map (rename_line p) lines ≡ map (rename_line q) lines
 lines_stay p q [] h = refl
 lines_stay p q (l ∷ lines) h =
     ap₂ ◌∷◌ (line_stays p q l (λ b m. h b (Among_left (line_blanks l) (flat_map line_blanks lines) b m)))
     (lines_stay p q lines (λ b m. h b (Among_right (line_blanks l) (flat_map line_blanks lines) b m)))
 
 -- the lines by the numbers that there are with one more line
-pub numbers_stay : (lines : List (Line PageBlank)) (l : Line PageBlank) → numbered_lines lines ≡ map (rename_line (place_in same_blank (table (lines ++ l ∷ [])))) lines
-numbers_stay lines l = lines_stay (place_in same_blank (table lines)) (place_in same_blank (table (lines ++ l ∷ []))) lines
+pub numbers_stay : (lines : List (QuadLine PageBlank)) (l : QuadLine PageBlank) → numbered_lines lines ≡ map (rename_line (place_in same_blank (blank_table (lines ++ l ∷ [])))) lines
+numbers_stay lines l = lines_stay (place_in same_blank (blank_table lines)) (place_in same_blank (blank_table (lines ++ l ∷ []))) lines
     (λ b m. place_stays same_blank exact_blanks (flat_map line_blanks lines) (line_blanks l) b m ∙ ap (λ z. place_in same_blank (distinct same_blank z) b) (sym (flat_more line_blanks lines l)))
 
-pub numbered_more : (lines : List (Line PageBlank)) (l : Line PageBlank) → numbered_lines lines ++ rename_line (place_in same_blank (table (lines ++ l ∷ []))) l ∷ [] ≡ numbered_lines (lines ++ l ∷ [])
+pub numbered_more : (lines : List (QuadLine PageBlank)) (l : QuadLine PageBlank) → numbered_lines lines ++ rename_line (place_in same_blank (blank_table (lines ++ l ∷ []))) l ∷ [] ≡ numbered_lines (lines ++ l ∷ [])
 numbered_more lines l =
-    let next : PageBlank → ℕ = place_in same_blank (table (lines ++ l ∷ [])) in
+    let next : PageBlank → ℕ = place_in same_blank (blank_table (lines ++ l ∷ [])) in
     ap (λ z. z ++ rename_line next l ∷ []) (numbers_stay lines l)
     ∙ sym (map-append (rename_line next) lines (l ∷ []))
 
 -- ---- one line more
 
-module _ (shared : List Chars) (d new : Document) (lines : List (Line PageBlank)) (s : Stands shared d lines) where
+module _ (shared : List Chars) (d new : Document) (lines : List (QuadLine PageBlank)) (s : LinesStand shared d lines) where
   -- a line whose blank nodes have the numbers that there are with it
-  stands_with : (l : Line PageBlank) (x : Line ℕ) → x ≡ rename_line (place_in same_blank (table (lines ++ l ∷ []))) l → (text : List ℕ) (statements : List (Line ℕ))
-      → Spells text (numbered_lines lines ++ x ∷ []) → Holds shared statements (numbered_lines lines ++ x ∷ []) → new.text.bytes ≡ text → new.statements ≡ statements → Stands shared new (lines ++ l ∷ [])
+  stands_with : (l : QuadLine PageBlank) (x : QuadLine ℕ) → x ≡ rename_line (place_in same_blank (blank_table (lines ++ l ∷ []))) l → (text : List ℕ) (statements : List (QuadLine ℕ))
+      → SpellsLines text (numbered_lines lines ++ x ∷ []) → HoldsShared shared statements (numbered_lines lines ++ x ∷ []) → new.text.bytes ≡ text → new.statements ≡ statements → LinesStand shared new (lines ++ l ∷ [])
   stands_with l x is text statements spells holds e g =
       let now : numbered_lines lines ++ x ∷ [] ≡ numbered_lines (lines ++ l ∷ []) = ap (λ z. numbered_lines lines ++ z ∷ []) is ∙ numbered_more lines l in
       record {
-        spells = subst (λ (z : List (Line ℕ)). Spells new.text.bytes z) now (subst (λ (z : List ℕ). Spells z (numbered_lines lines ++ x ∷ [])) (sym e) spells);
-        holds = subst (λ (z : List (Line ℕ)). Holds shared new.statements z) now (subst (λ (z : List (Line ℕ)). Holds shared z (numbered_lines lines ++ x ∷ [])) (sym g) holds);
+        spells = subst (λ (z : List (QuadLine ℕ)). SpellsLines new.text.bytes z) now (subst (λ (z : List ℕ). SpellsLines z (numbered_lines lines ++ x ∷ [])) (sym e) spells);
+        holds = subst (λ (z : List (QuadLine ℕ)). HoldsShared shared new.statements z) now (subst (λ (z : List (QuadLine ℕ)). HoldsShared shared z (numbered_lines lines ++ x ∷ [])) (sym g) holds);
       }
 
-  comment_stands : (address : Chars) (fault : Fault) → new.text.bytes ≡ d.text.bytes ++ encode_utf8_all (line_text (comment address fault)) → new.statements ≡ d.statements → WritableComment address fault
-      → Stands shared new (lines ++ comment address fault ∷ [])
+  comment_stands : (address : Chars) (fault : Fault) → new.text.bytes ≡ d.text.bytes ++ encode_utf8_all (dataset_line (comment address fault)) → new.statements ≡ d.statements → WritableComment address fault
+      → LinesStand shared new (lines ++ comment address fault ∷ [])
   comment_stands address fault e g w =
       stands_with (comment address fault) (comment address fault) refl new.text.bytes d.statements
       (spells_new d.text.bytes (numbered_lines lines) s.spells (comment address fault) new.text.bytes (no_comment (numbered_lines lines) address fault) e w)
       (holds_other shared d.statements (numbered_lines lines) s.holds (comment address fault) (λ name t m n. refl)) refl g
 
-  module _ (l : Line PageBlank) (name : Chars) (u : Triple ℕ) (is : statement name u ≡ rename_line (place_in same_blank (table (lines ++ l ∷ []))) l) where
-    pub stands_old : Among shared name → has_blank u ≡ false → contains same_line d.statements (statement name u) ≡ true → new.text.bytes ≡ d.text.bytes → new.statements ≡ d.statements → Stands shared new (lines ++ l ∷ [])
+  module _ (l : QuadLine PageBlank) (name : Chars) (u : Triple ℕ) (is : statement name u ≡ rename_line (place_in same_blank (blank_table (lines ++ l ∷ []))) l) where
+    pub stands_old : Among shared name → has_blank u ≡ false → contains same_line d.statements (statement name u) ≡ true → new.text.bytes ≡ d.text.bytes → new.statements ≡ d.statements → LinesStand shared new (lines ++ l ∷ [])
     stands_old m n there e g =
         stands_with l (statement name u) is d.text.bytes d.statements
         (spells_old d.text.bytes (numbered_lines lines) s.spells (statement name u) (sym (s.holds name u m n) ∙ there))
         (holds_old shared d.statements (numbered_lines lines) s.holds (statement name u) there) e g
 
-    pub stands_new : Among shared name → has_blank u ≡ false → contains same_line d.statements (statement name u) ≡ false → new.text.bytes ≡ d.text.bytes ++ encode_utf8_all (line_text (statement name u))
+    pub stands_new : Among shared name → has_blank u ≡ false → contains same_line d.statements (statement name u) ≡ false → new.text.bytes ≡ d.text.bytes ++ encode_utf8_all (dataset_line (statement name u))
         → new.statements ≡ with_one same_line d.statements (statement name u) → WritableTriple (Some name) u
-        → Stands shared new (lines ++ l ∷ [])
+        → LinesStand shared new (lines ++ l ∷ [])
     stands_new m n lacks e g w =
         let added : new.statements ≡ d.statements ++ statement name u ∷ [] = g ∙ ap (λ b. if b then d.statements else d.statements ++ statement name u ∷ []) lacks in
         stands_with l (statement name u) is new.text.bytes (d.statements ++ statement name u ∷ [])
@@ -152,15 +152,15 @@ module _ (shared : List Chars) (d new : Document) (lines : List (Line PageBlank)
         (holds_new shared d.statements (numbered_lines lines) s.holds (statement name u)) refl added
 
     -- in the graph of one page
-    pub stands_own : (Among shared name → has_blank u ≡ false → ⊥) → contains same_line (numbered_lines lines) (statement name u) ≡ false → new.text.bytes ≡ d.text.bytes ++ encode_utf8_all (line_text (statement name u))
-        → new.statements ≡ d.statements → WritableTriple (Some name) u → Stands shared new (lines ++ l ∷ [])
+    pub stands_own : (Among shared name → has_blank u ≡ false → ⊥) → contains same_line (numbered_lines lines) (statement name u) ≡ false → new.text.bytes ≡ d.text.bytes ++ encode_utf8_all (dataset_line (statement name u))
+        → new.statements ≡ d.statements → WritableTriple (Some name) u → LinesStand shared new (lines ++ l ∷ [])
     stands_own own lacks e g w =
         stands_with l (statement name u) is new.text.bytes d.statements
         (spells_new d.text.bytes (numbered_lines lines) s.spells (statement name u) new.text.bytes lacks e w)
         (holds_other shared d.statements (numbered_lines lines) s.holds (statement name u) (in_own shared name u own)) refl g
 
-pub stands_comment : (shared : List Chars) (d new : Document) (lines : List (Line PageBlank)) → DocumentStands shared d lines → (address : Chars) (fault : Fault)
-    → new.text.bytes ≡ d.text.bytes ++ encode_utf8_all (line_text (comment address fault)) → new.blanks ≡ d.blanks → new.statements ≡ d.statements → WritableComment address fault
+pub stands_comment : (shared : List Chars) (d new : Document) (lines : List (QuadLine PageBlank)) → DocumentStands shared d lines → (address : Chars) (fault : Fault)
+    → new.text.bytes ≡ d.text.bytes ++ encode_utf8_all (dataset_line (comment address fault)) → new.blanks ≡ d.blanks → new.statements ≡ d.statements → WritableComment address fault
     → DocumentStands shared new (lines ++ comment address fault ∷ [])
 stands_comment shared d new lines s address fault e f g w = record {
   counted = sym (ap length (table_more lines (comment address fault))) ∙ s.counted ∙ sym (ap (λ n. n.before + length n.here) f);
@@ -169,10 +169,10 @@ stands_comment shared d new lines s address fault e f g w = record {
 
 -- ---- the triples of a page, and the pages
 
-pub page_begins : {shared : List Chars} {place : ℕ} {d : Document} {lines : List (Line PageBlank)} → PageStands shared place d lines → PageStands shared place d (lines ++ [])
-page_begins {shared = shared} {place = place} {d = d} {lines = lines} s = subst (λ (z : List (Line PageBlank)). PageStands shared place d z) (sym (append-nil lines)) s
+pub page_begins : {shared : List Chars} {place : ℕ} {d : Document} {lines : List (QuadLine PageBlank)} → PageStands shared place d lines → PageStands shared place d (lines ++ [])
+page_begins {shared = shared} {place = place} {d = d} {lines = lines} s = subst (λ (z : List (QuadLine PageBlank)). PageStands shared place d z) (sym (append-nil lines)) s
 
-pub triples_more : (lines : List (Line PageBlank)) (place : ℕ) (name : Chars) (list : List CodeTriple) (i : ℕ) (t : CodeTriple) → slice_get list i ≡ Some t
+pub triples_more : (lines : List (QuadLine PageBlank)) (place : ℕ) (name : Chars) (list : List CodeTriple) (i : ℕ) (t : CodeTriple) → slice_get list i ≡ Some t
     → (lines ++ map (statement_at place name) (triples_seen (take i list))) ++ statement_at place name (triple_seen t) ∷ [] ≡ lines ++ map (statement_at place name) (triples_seen (take (i + 1) list))
 triples_more lines place name list i t at =
     append_assoc lines (map (statement_at place name) (triples_seen (take i list))) (statement_at place name (triple_seen t) ∷ [])

@@ -1,5 +1,5 @@
 -- The triples of one page, whose blank nodes come behind those of the pages before it.
-use Rattle.rx_many.proofs.Common.{◌≡◌, ◌∙◌, ℕ, zero, suc, ◌+◌, ◌<◌, ◌≤◌, true, false, List, [], ◌∷◌, ◌++◌, map, flat_map, take, length, Some, refl, sym, ap, ap₂, subst, inl, inr, arith, append-nil, length-append, nat_eq, true≢false, Bool, slice_get, ◌||◌, ◌&&◌, not, Chars, Among, contains, with_one, with_all, Node, Iri, Blank, Term, Resource, Literal, Triple, blank_of_node, blank_of_term, blanks_of, place_in, rename_node, rename_term, rename, length-take, map-append, length-map, encode_utf8_all, without_fragment, same_triple_by, WritableTriple, has_blank, is_blank_node, is_blank_term, name_of, AreApart, Line, PageBlank, comment, statement, statement_at, at_place, line_blanks, lines_by, lines_of, lines_from, same_blank, same_line, table, rename_line, numbered_lines, Numbers, number_at, Judgement, refused, accepted, accepted_page, page_seen, AreBefore, AreNew, ComeLast, DocumentStands, PageStands, Stands, Tells, line_text}
+use Rattle.rx_many.proofs.Common.{◌≡◌, ◌∙◌, ℕ, zero, suc, ◌+◌, ◌<◌, ◌≤◌, true, false, List, [], ◌∷◌, ◌++◌, map, flat_map, take, length, Some, refl, sym, ap, ap₂, subst, inl, inr, arith, append-nil, length-append, nat_eq, true≢false, Bool, slice_get, ◌||◌, ◌&&◌, not, Chars, Among, contains, with_one, with_all, Node, Iri, Blank, Term, Resource, Literal, Triple, blank_of_node, blank_of_term, blanks_of, place_in, rename_node, rename_term, rename, length-take, map-append, length-map, encode_utf8_all, without_fragment, same_triple_by, WritableTriple, has_blank, is_blank_node, is_blank_term, name_of, AreApart, QuadLine, PageBlank, comment, statement, statement_at, at_place, line_blanks, lines_by, lines_of, lines_from, same_blank, same_line, blank_table, rename_line, numbered_lines, BlankNumbers, number_at, Judgement, refused, accepted, accepted_page, page_seen, AreBefore, AreNew, ComeLast, DocumentStands, PageStands, LinesStand, TellsShared, dataset_line}
 use Rattle.rx_model.proofs.Common.{and_from, untrue, or_cases, and_left, and_right, Among_left, Among_right, false_unless, Among_cases, Among_of_map, Among_flat_map, Among_of_flat_map, Among_of_distinct, Among_by_contains}
 use Rattle.rx_many.specs.declared.pages.Page.{Page as CodePage}
 use Rattle.rx_many.specs.declared.documents.Document.{Document}
@@ -66,7 +66,7 @@ its_blank t e = elim (or_cases (is_blank_node t.subject) (is_blank_term t.object
 pub repeats : (is_shared blank : Bool) → (is_shared && not blank) ≡ true → (is_shared ≡ true) × (blank ≡ false)
 repeats is_shared blank e = (and_left is_shared (not blank) e, untrue blank (and_right is_shared (not blank) e))
 
-pub repeats_not : (is_shared : Bool) (t : Triple ℕ) (shared : List Chars) (name : Chars) → Tells is_shared shared name → (is_shared && not (has_blank t)) ≡ false → Among shared name → has_blank t ≡ false → ⊥
+pub repeats_not : (is_shared : Bool) (t : Triple ℕ) (shared : List Chars) (name : Chars) → TellsShared is_shared shared name → (is_shared && not (has_blank t)) ≡ false → Among shared name → has_blank t ≡ false → ⊥
 repeats_not is_shared t shared name tells e m n = go is_shared refl
   where
     go : (b : Bool) → is_shared ≡ b → ⊥
@@ -75,9 +75,9 @@ repeats_not is_shared t shared name tells e m n = go is_shared refl
 
 -- ---- one triple more
 
-module _ (place : ℕ) (name : Chars) (t : Triple ℕ) (lines : List (Line PageBlank)) (old new : Numbers) (last : ComeLast place old (table lines))
+module _ (place : ℕ) (name : Chars) (t : Triple ℕ) (lines : List (QuadLine PageBlank)) (old new : BlankNumbers) (last : ComeLast place old (blank_table lines))
     (stays : new.before ≡ old.before) (grows : new.here ≡ with_all nat_eq old.here (blanks_of t)) where
-  still_last : ComeLast place new (table (lines ++ statement_at place name t ∷ []))
+  still_last : ComeLast place new (blank_table (lines ++ statement_at place name t ∷ []))
   still_last = record {
     front = last.front;
     is =
@@ -88,22 +88,22 @@ module _ (place : ℕ) (name : Chars) (t : Triple ℕ) (lines : List (Line PageB
     apart = last.apart;
   }
 
-  numbered_here : (u : Triple ℕ) → u ≡ rename (number_at new) t → statement name u ≡ rename_line (place_in same_blank (table (lines ++ statement_at place name t ∷ []))) (statement_at place name t)
+  numbered_here : (u : Triple ℕ) → u ≡ rename (number_at new) t → statement name u ≡ rename_line (place_in same_blank (blank_table (lines ++ statement_at place name t ∷ []))) (statement_at place name t)
   numbered_here u e =
-      let to : PageBlank → ℕ = place_in same_blank (table (lines ++ statement_at place name t ∷ [])) in
-      let now : ComeLast place new (table (lines ++ statement_at place name t ∷ [])) = still_last in
+      let to : PageBlank → ℕ = place_in same_blank (blank_table (lines ++ statement_at place name t ∷ [])) in
+      let now : ComeLast place new (blank_table (lines ++ statement_at place name t ∷ [])) = still_last in
       ap (statement name)
       (e
       ∙ sym (twice (at_place place) to t
       ∙ same_triple_by (λ b. to (at_place place b)) (number_at new) t
       (λ b m. ap (λ z. place_in same_blank z (at_place place b)) now.is ∙ number_here place now.front now.apart new.here b ∙ ap (λ n. n + place_in nat_eq new.here b) now.count)))
 
-module _ (shared : List Chars) (place : ℕ) (d new : Document) (lines : List (Line PageBlank)) (s : PageStands shared place d lines) (name : Chars) (t u : Triple ℕ)
+module _ (shared : List Chars) (place : ℕ) (d new : Document) (lines : List (QuadLine PageBlank)) (s : PageStands shared place d lines) (name : Chars) (t u : Triple ℕ)
     (stays : new.blanks.before ≡ d.blanks.before) (grows : new.blanks.here ≡ with_all nat_eq d.blanks.here (blanks_of t)) (renamed : u ≡ rename (number_at new.blanks) t) where
-  with_last : Stands shared new (lines ++ statement_at place name t ∷ []) → PageStands shared place new (lines ++ statement_at place name t ∷ [])
+  with_last : LinesStand shared new (lines ++ statement_at place name t ∷ []) → PageStands shared place new (lines ++ statement_at place name t ∷ [])
   with_last stands = record { last = still_last place name t lines d.blanks new.blanks s.last stays grows; stands = stands }
 
-  is_line : statement name u ≡ rename_line (place_in same_blank (table (lines ++ statement_at place name t ∷ []))) (statement_at place name t)
+  is_line : statement name u ≡ rename_line (place_in same_blank (blank_table (lines ++ statement_at place name t ∷ []))) (statement_at place name t)
   is_line = numbered_here place name t lines d.blanks new.blanks s.last stays grows u renamed
 
   as_before : has_blank u ≡ has_blank t
@@ -115,26 +115,26 @@ module _ (shared : List Chars) (place : ℕ) (d new : Document) (lines : List (L
   page_old m n there e g = with_last (stands_old shared d new lines s.stands (statement_at place name t) name u is_line m (as_before ∙ n) there e g)
 
   -- it isn't
-  page_new : Among shared name → has_blank t ≡ false → contains same_line d.statements (statement name u) ≡ false → new.text.bytes ≡ d.text.bytes ++ encode_utf8_all (line_text (statement name u))
+  page_new : Among shared name → has_blank t ≡ false → contains same_line d.statements (statement name u) ≡ false → new.text.bytes ≡ d.text.bytes ++ encode_utf8_all (dataset_line (statement name u))
       → new.statements ≡ with_one same_line d.statements (statement name u) → WritableTriple (Some name) u
       → PageStands shared place new (lines ++ statement_at place name t ∷ [])
   page_new m n lacks e g w = with_last (stands_new shared d new lines s.stands (statement_at place name t) name u is_line m (as_before ∙ n) lacks e g w)
 
   -- no other page states it
-  pub own_statement : (Among shared name → has_blank t ≡ false → ⊥) → (Among lines (statement_at place name t) → ⊥) → new.text.bytes ≡ d.text.bytes ++ encode_utf8_all (line_text (statement name u))
+  pub own_statement : (Among shared name → has_blank t ≡ false → ⊥) → (Among lines (statement_at place name t) → ⊥) → new.text.bytes ≡ d.text.bytes ++ encode_utf8_all (dataset_line (statement name u))
       → new.statements ≡ d.statements → WritableTriple (Some name) u → PageStands shared place new (lines ++ statement_at place name t ∷ [])
   own_statement own fresh e g w =
       let lacks : contains same_line (numbered_lines lines) (statement name u) ≡ false = ap (contains same_line (numbered_lines lines)) is_line ∙ still_new lines (statement_at place name t) fresh in
       with_last (stands_own shared d new lines s.stands (statement_at place name t) name u is_line (λ m n. own m (sym as_before ∙ n)) lacks e g w)
 
 -- the same of the first two where the name is at hand by another name
-module _ (shared : List Chars) (place : ℕ) (d new : Document) (lines : List (Line PageBlank)) (s : PageStands shared place d lines) (name named : Chars) (same : named ≡ name) (m : Among shared name) (t u : Triple ℕ) (n : has_blank t ≡ false)
+module _ (shared : List Chars) (place : ℕ) (d new : Document) (lines : List (QuadLine PageBlank)) (s : PageStands shared place d lines) (name named : Chars) (same : named ≡ name) (m : Among shared name) (t u : Triple ℕ) (n : has_blank t ≡ false)
     (stays : new.blanks.before ≡ d.blanks.before) (grows : new.blanks.here ≡ with_all nat_eq d.blanks.here (blanks_of t)) (renamed : u ≡ rename (number_at new.blanks) t) where
   pub old_statement : contains same_line d.statements (statement named u) ≡ true → new.text.bytes ≡ d.text.bytes → new.statements ≡ d.statements → PageStands shared place new (lines ++ statement_at place name t ∷ [])
   old_statement there e g = subst (λ (z : Chars). PageStands shared place new (lines ++ statement_at place z t ∷ [])) same
       (page_old shared place d new lines s named t u stays grows renamed (subst (λ (z : Chars). Among shared z) (sym same) m) n there e g)
 
-  pub new_statement : contains same_line d.statements (statement named u) ≡ false → new.text.bytes ≡ d.text.bytes ++ encode_utf8_all (line_text (statement named u))
+  pub new_statement : contains same_line d.statements (statement named u) ≡ false → new.text.bytes ≡ d.text.bytes ++ encode_utf8_all (dataset_line (statement named u))
       → new.statements ≡ with_one same_line d.statements (statement named u) → WritableTriple (Some named) u
       → PageStands shared place new (lines ++ statement_at place name t ∷ [])
   new_statement lacks e g w = subst (λ (z : Chars). PageStands shared place new (lines ++ statement_at place z t ∷ [])) same
@@ -142,19 +142,19 @@ module _ (shared : List Chars) (place : ℕ) (d new : Document) (lines : List (L
 
 -- ---- a page begins and ends
 
-pub turned : (shared : List Chars) (place : ℕ) (d new : Document) (lines : List (Line PageBlank)) → DocumentStands shared d lines → AreBefore place (table lines)
+pub turned : (shared : List Chars) (place : ℕ) (d new : Document) (lines : List (QuadLine PageBlank)) → DocumentStands shared d lines → AreBefore place (blank_table lines)
     → new.blanks.before ≡ d.blanks.before + length d.blanks.here → new.blanks.here ≡ [] → new.text.bytes ≡ d.text.bytes → new.statements ≡ d.statements → PageStands shared place new lines
 turned shared place d new lines s before e f g h = record {
   last = record {
-    front = table lines;
-    is = sym (append-nil (table lines)) ∙ ap (λ z. table lines ++ map (at_place place) z) (sym f);
+    front = blank_table lines;
+    is = sym (append-nil (blank_table lines)) ∙ ap (λ z. blank_table lines ++ map (at_place place) z) (sym f);
     count = s.counted ∙ sym e;
     apart = before;
   };
   stands = record { spells = rw g s.stands.spells; holds = rw h s.stands.holds };
 }
 
-pub page_ends : (shared : List Chars) (place : ℕ) (d : Document) (lines : List (Line PageBlank)) → PageStands shared place d lines → DocumentStands shared d lines
+pub page_ends : (shared : List Chars) (place : ℕ) (d : Document) (lines : List (QuadLine PageBlank)) → PageStands shared place d lines → DocumentStands shared d lines
 page_ends shared place d lines s = record {
   counted =
       ap length s.last.is ∙ length-append s.last.front (map (at_place place) d.blanks.here)
@@ -163,14 +163,14 @@ page_ends shared place d lines s = record {
 }
 
 -- in the graph of the address without fragment
-pub in_graph : (shared : List Chars) (place : ℕ) (d : Document) (lines : List (Line PageBlank)) (address name : Chars) (triples : List (Triple ℕ)) → name ≡ without_fragment address
+pub in_graph : (shared : List Chars) (place : ℕ) (d : Document) (lines : List (QuadLine PageBlank)) (address name : Chars) (triples : List (Triple ℕ)) → name ≡ without_fragment address
     → PageStands shared place d (lines ++ map (statement_at place name) triples) → DocumentStands shared d (lines ++ lines_of place (accepted_page address triples))
 in_graph shared place d lines address name triples e s =
     subst (λ (n : Chars). DocumentStands shared d (lines ++ map (statement_at place n) triples)) e (page_ends shared place d (lines ++ map (statement_at place name) triples) s)
 
 -- ---- the blank nodes of the pages before
 
-line_place : (start : ℕ) (address : Chars) (judgement : Judgement) (l : Line PageBlank) (x : PageBlank) → Among (lines_by start address judgement) l → Among (line_blanks l) x → x.0 ≡ start
+line_place : (start : ℕ) (address : Chars) (judgement : Judgement) (l : QuadLine PageBlank) (x : PageBlank) → Among (lines_by start address judgement) l → Among (line_blanks l) x → x.0 ≡ start
 line_place start address judgement (comment a f) x m n = absurd n
 line_place start address judgement (statement name u) x m n =
     let g = line_here start address judgement name u m in
@@ -187,11 +187,11 @@ places_below start (page ∷ pages) x m =
       | inr k ↦ (let later = places_below (suc start) pages x (Among_flat_map line_blanks (lines_from (suc start) (map page_seen pages)) s.0 x k s.2) in omega (arith, later))
     ]
 
-pub pages_before : (pages : List CodePage) (i : ℕ) → AreBefore i (table (lines_from 0 (map page_seen (take i pages))))
+pub pages_before : (pages : List CodePage) (i : ℕ) → AreBefore i (blank_table (lines_from 0 (map page_seen (take i pages))))
 pages_before pages i b =
-    let lines : List (Line PageBlank) = lines_from 0 (map page_seen (take i pages)) in
-    false_unless (contains same_blank (table lines) (at_place i b))
-    (λ h. let below = places_below 0 (take i pages) (at_place i b) (Among_of_distinct same_blank (flat_map line_blanks lines) (at_place i b) (Among_by_contains same_blank exact_blanks (table lines) (at_place i b) h)) in
+    let lines : List (QuadLine PageBlank) = lines_from 0 (map page_seen (take i pages)) in
+    false_unless (contains same_blank (blank_table lines) (at_place i b))
+    (λ h. let below = places_below 0 (take i pages) (at_place i b) (Among_of_distinct same_blank (flat_map line_blanks lines) (at_place i b) (Among_by_contains same_blank exact_blanks (blank_table lines) (at_place i b) h)) in
     let apart : i < i = omega (arith, below, length-take i pages) in omega (arith, apart))
 
 -- what a page states is in no line of those before, where it has a blank node or its graph's name is of this page alone

@@ -4,10 +4,10 @@ use Rattle.rx_model.specs.Common.{Chars, Among, Triple, rename, blanks_of}
 use Rattle.rx_refs.specs.Resolve.{without_fragment}
 use Rattle.rx_nquads.specs.Quads.{Quad, quad_of}
 use Rattle.rx_nquads.specs.Document.{Nquads}
-use Rattle.rx_many.specs.Pages.{Page, accepted_page}
+use Rattle.rx_many.specs.Pages.{JudgedPage, accepted_page}
 
 -- the page at a place is accepted and gives this triple, in the graph of its address without fragment
-pub record Gives (pages : List Page) (place : ℕ) (name : Chars) (t : Triple ℕ) : Type 0 where
+pub record Gives (pages : List JudgedPage) (place : ℕ) (name : Chars) (t : Triple ℕ) : Type 0 where
   pub address : Chars
   pub triples : List (Triple ℕ)
   pub at : slice_get pages place ≡ Some (accepted_page address triples)
@@ -15,14 +15,14 @@ pub record Gives (pages : List Page) (place : ℕ) (name : Chars) (t : Triple �
   pub given : Among triples t
 
 -- the page at a place gives a triple with this blank node
-pub record HasBlank (pages : List Page) (place blank : ℕ) : Type 0 where
+pub record HasBlank (pages : List JudgedPage) (place blank : ℕ) : Type 0 where
   pub name : Chars
   pub triple : Triple ℕ
   pub gives : Gives pages place name triple
   pub has : Among (blanks_of triple) blank
 
 -- the page at a place gives this quad, where its blank nodes have these names
-pub record GivesQuad (pages : List Page) (to : ℕ → ℕ → ℕ) (q : Quad) : Type 0 where
+pub record GivesQuad (pages : List JudgedPage) (to : ℕ → ℕ → ℕ) (q : Quad) : Type 0 where
   pub place : ℕ
   pub name : Chars
   pub triple : Triple ℕ
@@ -31,7 +31,7 @@ pub record GivesQuad (pages : List Page) (to : ℕ → ℕ → ℕ) (q : Quad) :
 
 -- The text denotes exactly the quads that the accepted pages give. Their blank nodes are renamed together one to one, so
 -- that no two pages share one.
-pub record DenotesPages (text : Chars) (pages : List Page) : Type 0 where
+pub record DenotesPages (text : Chars) (pages : List JudgedPage) : Type 0 where
   pub to : ℕ → ℕ → ℕ
   pub one_to_one : (place blank other_place other : ℕ) → HasBlank pages place blank → HasBlank pages other_place other
       → to place blank ≡ to other_place other → (place ≡ other_place) × (blank ≡ other)

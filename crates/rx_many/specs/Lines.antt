@@ -4,12 +4,12 @@ use Rattle.std.specs.Prelude.{ℕ, suc, Bool, false, ◌&&◌, List, [], ◌∷�
 use Rattle.rx_model.specs.Common.{Chars, contains, distinct, Triple, same_triple, rename, blanks_of, place_in}
 use Rattle.rx_grammar.specs.declared.faults.Fault.{Fault}
 use Rattle.rx_refs.specs.Resolve.{without_fragment}
-use Rattle.rx_many.specs.Pages.{Page, Judgement, refused, accepted}
+use Rattle.rx_many.specs.Pages.{JudgedPage, Judgement, refused, accepted}
 
 -- a line over any type B of blank nodes: that the page of this address is refused, or a triple in the graph of this name
-pub data Line (B : Type 0) : Type 0 where
-  comment : Chars → Fault → Line B
-  statement : Chars → Triple B → Line B
+pub data QuadLine (B : Type 0) : Type 0 where
+  comment : Chars → Fault → QuadLine B
+  statement : Chars → Triple B → QuadLine B
 
 -- a blank node of a page, with the page's place in the list, so that two pages share none
 abbrev pub PageBlank : Type 0
@@ -18,19 +18,19 @@ PageBlank = ℕ × ℕ
 abbrev pub at_place : ℕ → ℕ → PageBlank
 at_place place blank = (place, blank)
 
-abbrev pub statement_at : ℕ → Chars → Triple ℕ → Line PageBlank
+abbrev pub statement_at : ℕ → Chars → Triple ℕ → QuadLine PageBlank
 statement_at place name t = statement name (rename (at_place place) t)
 
 -- the graph's name is the address without its fragment
-abbrev pub lines_by : ℕ → Chars → Judgement → List (Line PageBlank)
+abbrev pub lines_by : ℕ → Chars → Judgement → List (QuadLine PageBlank)
 lines_by place address (refused fault) = comment address fault ∷ []
 lines_by place address (accepted triples) = map (statement_at place (without_fragment address)) triples
 
-abbrev pub lines_of : ℕ → Page → List (Line PageBlank)
+abbrev pub lines_of : ℕ → JudgedPage → List (QuadLine PageBlank)
 lines_of place page = lines_by place page.address page.judgement
 
 -- all lines of pages whose places begin here, page after page
-abbrev pub lines_from : ℕ → List Page → List (Line PageBlank)
+abbrev pub lines_from : ℕ → List JudgedPage → List (QuadLine PageBlank)
 lines_from place [] = []
 lines_from place (page ∷ pages) = lines_of place page ++ lines_from (suc place) pages
 
@@ -39,36 +39,36 @@ lines_from place (page ∷ pages) = lines_of place page ++ lines_from (suc place
 abbrev pub same_blank : PageBlank → PageBlank → Bool
 same_blank a b = nat_eq a.0 b.0 && nat_eq a.1 b.1
 
-abbrev pub line_blanks : {B : Type 0} → Line B → List B
+abbrev pub line_blanks : {B : Type 0} → QuadLine B → List B
 line_blanks (comment address fault) = []
 line_blanks (statement name t) = blanks_of t
 
 -- the blank nodes of all pages in order of first occurrence, whose places are their numbers
-abbrev pub table : List (Line PageBlank) → List PageBlank
-table lines = distinct same_blank (flat_map line_blanks lines)
+abbrev pub blank_table : List (QuadLine PageBlank) → List PageBlank
+blank_table lines = distinct same_blank (flat_map line_blanks lines)
 
 -- its place among these
-abbrev pub number_in : List PageBlank → PageBlank → ℕ
-number_in known blank = place_in same_blank known blank
+abbrev pub blank_number : List PageBlank → PageBlank → ℕ
+blank_number known blank = place_in same_blank known blank
 
-abbrev pub rename_line : {A B : Type 0} → (A → B) → Line A → Line B
+abbrev pub rename_line : {A B : Type 0} → (A → B) → QuadLine A → QuadLine B
 rename_line to (comment address fault) = comment address fault
 rename_line to (statement name t) = statement name (rename to t)
 
-abbrev pub numbered_lines : List (Line PageBlank) → List (Line ℕ)
-numbered_lines lines = map (rename_line (number_in (table lines))) lines
+abbrev pub numbered_lines : List (QuadLine PageBlank) → List (QuadLine ℕ)
+numbered_lines lines = map (rename_line (blank_number (blank_table lines))) lines
 
 -- ---- what is written
 
 -- they state the same; no comment is the same as another, since each is of its own page
-abbrev pub same_line : Line ℕ → Line ℕ → Bool
+abbrev pub same_line : QuadLine ℕ → QuadLine ℕ → Bool
 same_line (statement name t) (statement other u) = bytes_eq name other && same_triple nat_eq t u
 same_line line other = false
 
 -- the lines but for those that state what stands in an earlier line
-abbrev pub kept_after : List (Line ℕ) → List (Line ℕ) → List (Line ℕ)
+abbrev pub kept_after : List (QuadLine ℕ) → List (QuadLine ℕ) → List (QuadLine ℕ)
 kept_after earlier [] = []
 kept_after earlier (line ∷ lines) = (if contains same_line earlier line then [] else line ∷ []) ++ kept_after (earlier ++ line ∷ []) lines
 
-abbrev pub kept : List (Line ℕ) → List (Line ℕ)
-kept lines = kept_after [] lines
+abbrev pub distinct_lines : List (QuadLine ℕ) → List (QuadLine ℕ)
+distinct_lines lines = kept_after [] lines

@@ -9,12 +9,12 @@ pub data Judgement : Type 0 where
   accepted : List (Triple ℕ) → Judgement
 
 -- a page, by its address
-pub record Page : Type 0 where
+pub record JudgedPage : Type 0 where
   pub address : Chars
   pub judgement : Judgement
 
-abbrev pub refused_page : Chars → Fault → Page
+abbrev pub refused_page : Chars → Fault → JudgedPage
 refused_page address fault = record { address = address; judgement = refused fault }
 
-abbrev pub accepted_page : Chars → List (Triple ℕ) → Page
+abbrev pub accepted_page : Chars → List (Triple ℕ) → JudgedPage
 accepted_page address triples = record { address = address; judgement = accepted triples }

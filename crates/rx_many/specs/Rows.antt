@@ -4,20 +4,20 @@ use Rattle.rx_terms.specs.Common.{String}
 use Rattle.rx_model.specs.Common.{Chars, Plain, Iri, Blank, Resource, Literal, Triple, spo}
 use Rattle.rx_grammar.specs.declared.faults.Fault.{Fault}
 use Rattle.rx_grammar.specs.declared.faults.Kind.TheVariants.{Mismatch, Unended}
-use Rattle.rx_many.specs.Pages.{Page, refused_page, accepted_page}
-use Rattle.rx_many.specs.Writing.{gathered}
+use Rattle.rx_many.specs.Pages.{JudgedPage, refused_page, accepted_page}
+use Rattle.rx_many.specs.Writing.{pages_document}
 
 pub record Row : Type 0 where
-  pub pages : List Page
+  pub pages : List JudgedPage
   pub text : String
 
-abbrev pub row : List Page → String → Row
+abbrev pub row : List JudgedPage → String → Row
 row pages text = record { pages = pages; text = text }
 
 -- the texts of the rows that have another
 abbrev pub wrong : List Row → List String
 wrong [] = []
-wrong (r ∷ rows) = if bytes_eq (gathered r.pages) (codes r.text) then wrong rows else r.text ∷ wrong rows
+wrong (r ∷ rows) = if bytes_eq (pages_document r.pages) (codes r.text) then wrong rows else r.text ∷ wrong rows
 
 abbrev pub v : Chars → Chars
 v name = codes "http://v.example/" ++ name

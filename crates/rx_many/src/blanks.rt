@@ -1,7 +1,7 @@
 //! The numbering of the blank nodes of several pages.
 ghost use Rattle.std.specs.Prelude.{◌≡◌, ◌<◌, ◌+◌, [], IfOk, IsTrue, OnOk, length, nat_eq};
 ghost use Rattle.rx_model.specs.Common.{with_one, with_all, blank_of_node, blank_of_term, blanks_of, place_in, rename_node, rename_term, rename, node_seen, term_seen, triple_seen};
-ghost use Rattle.rx_many.specs.Numbering.{number_at, numbers_of};
+ghost use Rattle.rx_many.specs.Numbering.{blank_numbers, number_at};
 
 use rx_terms::{Blank, NoMemory, Node, Term, Triple};
 use rx_unique::Unique;
@@ -25,11 +25,11 @@ pub(crate) struct Blanks {
 impl Model for Blanks {
     ghost use Rattle.std.specs.Prelude.{◌++◌};
     ghost use Rattle.rx_graph.specs.Numbering.{numbers_to};
-    ghost use Rattle.rx_many.specs.Numbering.{Numbers, numbers_of};
+    ghost use Rattle.rx_many.specs.Numbering.{BlankNumbers, blank_numbers};
 
-    ghost Value = { Numbers };
+    ghost Value = { BlankNumbers };
 
-    ghost view = { λ blanks. record { before = blanks.before; here = numbers_to blanks.next ++ numbers_of blanks.others } };
+    ghost view = { λ blanks. record { before = blanks.before; here = numbers_to blanks.next ++ blank_numbers blanks.others } };
 }
 
 impl Blanks {
@@ -141,8 +141,8 @@ fn is_next(blank: Blank, next: u64, others: &Unique<Blank>) -> bool
 
 /// The place of the blank node among the others, of which the first one has the place `next`.
 fn place_behind(next: u64, others: &mut Unique<Blank>, blank: Blank) -> Result<u64, NoMemory>
-    ensures known { OnOk result (numbers_of others.new ≡ with_one nat_eq (numbers_of others.old) blank.0) }
-    ensures place { IfOk result (λ place. place ≡ next + place_in nat_eq (numbers_of others.new) blank.0) }
+    ensures known { OnOk result (blank_numbers others.new ≡ with_one nat_eq (blank_numbers others.old) blank.0) }
+    ensures place { IfOk result (λ place. place ≡ next + place_in nat_eq (blank_numbers others.new) blank.0) }
 {
     let (place, _is_new) = others.insert_full(blank)?;
     let Some(behind) = next.checked_add(place as u64) else {

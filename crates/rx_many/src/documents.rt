@@ -1,11 +1,11 @@
 //! A document that is being written.
 ghost use Rattle.std.specs.Prelude.{◌≡◌, ◌<◌, ℕ, List, [], ◌∷◌, IfOk, OnOk, Some, length, map, slice_get};
 ghost use Rattle.rx_model.specs.Common.{Chars, triple_seen, triples_seen};
-ghost use Rattle.rx_many.specs.Lines.{Line, comment, lines_from, numbered_lines};
+ghost use Rattle.rx_many.specs.Lines.{QuadLine, comment, lines_from, numbered_lines};
 ghost use Rattle.rx_many.specs.Pages.{accepted_page};
 ghost use Rattle.rx_many.specs.Seen.{page_seen};
 ghost use Rattle.rx_many.specs.Names.{AreApart};
-ghost use Rattle.rx_many.specs.Standing.{AddsComment, AddsNew, AddsOnce, AddsPage, AddsTriples, DocumentStands, Spells, Writes};
+ghost use Rattle.rx_many.specs.Standing.{AddsComment, AddsNew, AddsOnce, AddsPage, AddsTriples, DocumentStands, SpellsLines, WritesLine};
 
 use crate::blanks::Blanks;
 use crate::names::{is_shared, shared_names};
@@ -31,7 +31,7 @@ pub(crate) struct Document {
 
 /// The document of the pages.
 pub(crate) fn document_of(alloc: Global, pages: &[Page]) -> Result<Document, NoMemory>
-    ensures { IfOk result (λ document. Spells document.text.bytes (numbered_lines (lines_from 0 (map page_seen pages.now)))) }
+    ensures { IfOk result (λ document. SpellsLines document.text.bytes (numbered_lines (lines_from 0 (map page_seen pages.now)))) }
 {
     let shared = shared_names(alloc, pages)?;
     document_by(alloc, pages, &shared)
@@ -143,7 +143,7 @@ impl Document {
     /// Adds the line of the statement at this place.
     fn write(&mut self, place: usize) -> Result<(), NoMemory>
         requires { place < length self.old.statements }
-        ensures { (line : Line ℕ) → slice_get self.old.statements place ≡ Some line → OnOk result (Writes self.old line self.new) }
+        ensures { (line : QuadLine ℕ) → slice_get self.old.statements place ≡ Some line → OnOk result (WritesLine self.old line self.new) }
     {
         let statement = self.statements.at(place);
         self.text.put(&statement.triple, Some(&statement.name))

@@ -4,7 +4,7 @@ ghost use Rattle.rx_model.specs.Common.{chars, triples_seen};
 ghost use Rattle.rx_many.specs.Dataset.{DenotesPages};
 ghost use Rattle.rx_many.specs.Pages.{accepted_page, refused_page};
 ghost use Rattle.rx_many.specs.Seen.{page_seen};
-ghost use Rattle.rx_many.specs.Writing.{gathered};
+ghost use Rattle.rx_many.specs.Writing.{pages_document};
 
 use crate::documents::{Document, document_of};
 use crate::pages::{Judgement, Page};
@@ -23,10 +23,10 @@ pub struct Many {
 
 impl Model for Many {
     ghost use Rattle.std.specs.Prelude.{List, map};
-    ghost use Rattle.rx_many.specs.Pages.{Page};
+    ghost use Rattle.rx_many.specs.Pages.{JudgedPage};
     ghost use Rattle.rx_many.specs.Seen.{page_seen};
 
-    ghost Value = { List Page };
+    ghost Value = { List JudgedPage };
 
     ghost view = { λ many. map page_seen many.pages.items };
 }
@@ -89,7 +89,7 @@ impl Many {
     /// The document of the pages as UTF-8: for each page in order a comment with its fault, or a line for each of its quads
     /// that stands in no earlier line. Blank nodes are numbered in order of first occurrence over all pages.
     pub fn text(&self, alloc: Global) -> Result<Vec<u8>, NoMemory>
-        ensures bytes { IfOk result (λ text. text.items ≡ encode_utf8_all (gathered self.now)) }
+        ensures bytes { IfOk result (λ text. text.items ≡ encode_utf8_all (pages_document self.now)) }
         ensures denotes { IfOk result (λ text. DenotesPages (chars text.items) self.now) }
     {
         let Document {

@@ -1,7 +1,7 @@
 //! Comments on pages that are refused.
 ghost use Rattle.std.specs.Prelude.{◌≡◌, ◌<◌, ◌^◌, ◌++◌, IfOk, OnOk, codes, encode_utf8_all, string_bytes};
 ghost use Rattle.rx_many.specs.Lines.{comment};
-ghost use Rattle.rx_many.specs.Writing.{comment_with, line_text};
+ghost use Rattle.rx_many.specs.Writing.{comment_with, dataset_line};
 ghost use Rattle.rx_many.specs.Standing.{WritableComment};
 
 use rx_grammar::{Fault, name_of};
@@ -10,7 +10,7 @@ use std::alloc::{AllocError, Global};
 
 /// The comment on the page of this address, as a line.
 pub(crate) fn comment_on(alloc: Global, address: &Iri, fault: Fault) -> Result<String, NoMemory>
-    ensures spelled { IfOk result (λ line. string_bytes line ≡ encode_utf8_all (line_text (comment address.now fault))) }
+    ensures spelled { IfOk result (λ line. string_bytes line ≡ encode_utf8_all (dataset_line (comment address.now fault))) }
     ensures writable { OnOk result (WritableComment address.now fault) }
 {
     let line = comment_with(

@@ -26,10 +26,10 @@ pub(crate) struct Statements {
 
 impl Model for Statements {
     ghost use Rattle.std.specs.Prelude.{ℕ, List, map};
-    ghost use Rattle.rx_many.specs.Lines.{Line};
+    ghost use Rattle.rx_many.specs.Lines.{QuadLine};
     ghost use Rattle.rx_many.specs.Seen.{statement_seen};
 
-    ghost Value = { List (Line ℕ) };
+    ghost Value = { List (QuadLine ℕ) };
 
     ghost view = { λ statements. map statement_seen statements.statements };
 }

@@ -4,7 +4,7 @@ use Rattle.std.specs.Prelude.{⊤, not, ◌&&◌, ◌||◌, ◌==◌, nat_le, �
 use Rattle.std.proofs.lemmas.List.Elements.{Contains-append_left, Contains-append_right, All-nil, All-cons, All-head, All-tail, All-append, All-weaker, All-contains, All-contains_itself}
 use Rattle.rx_microdata.specs.Facts.{begins_item, facts_of}
 use Rattle.rx_microdata.specs.Elements.{Placed, count, scope_in, placed_from, elements_of, is_below, IsBelow, is_item}
-use Rattle.rx_microdata.specs.Laws.{is_before, ScopesTell}
+use Rattle.rx_microdata.specs.Laws.{is_after_scope, ScopesTell}
 use Rattle.rx_microdata.proofs.Lists.{and_parts, and_of, none, first, later, first_or_later, three, bool_same, contradiction, apart_from, apart_to}
 
 pub below_parts : (c e : Placed) → IsBelow c e → (c.place < e.place) × (e.place < c.past)
@@ -178,7 +178,7 @@ nested scope low tree b c hb hc below = (before_below (placed_from scope low tre
 
 -- ---- what a start reaches
 
-before_than : (n m : ℕ) (scope : Option ℕ) → AtMost n scope → is_before scope m ≡ true → n < m
+before_than : (n m : ℕ) (scope : Option ℕ) → AtMost n scope → is_after_scope scope m ≡ true → n < m
 before_than n m None a b = absurd a
 before_than n m (Some s) a b = let l = ltb-true s m b in omega (arith, a, l)
 
@@ -192,18 +192,18 @@ module _ (tree : Tree) (start e : Placed) (here : Contains (elements_of tree) e)
   abbrev from_start : Placed → Bool
   from_start between = nat_le start.place between.place && is_below between e
 
-  forth : is_below start e ≡ true → list_all (λ b. not (stops b)) page ≡ true → is_before e.scope start.place ≡ true
-  forth below free = elim ((scopes None 0 tree e here).0) as (λ _. is_before e.scope start.place ≡ true) [
-    | inl s ↦ ap (λ o. is_before o start.place) s
+  forth : is_below start e ≡ true → list_all (λ b. not (stops b)) page ≡ true → is_after_scope e.scope start.place ≡ true
+  forth below free = elim ((scopes None 0 tree e here).0) as (λ _. is_after_scope e.scope start.place ≡ true) [
+    | inl s ↦ ap (λ o. is_after_scope o start.place) s
     | inr held ↦
-        ap (λ o. is_before o start.place) held.4
+        ap (λ o. is_after_scope o start.place) held.4
         ∙ elim (cases_lt (held.0).place start.place) as (λ _. nat_lt (held.0).place start.place ≡ true) [
           | inl l ↦ lt-ltb (held.0).place start.place l
           | inr l ↦ contradiction (is_item held.0) held.2 (apart_from from_start is_item page free held.0 held.1 (and_of (nat_le start.place (held.0).place) (is_below held.0 e) (le-leb start.place (held.0).place l) held.3))
         ]
   ]
 
-  back : is_before e.scope start.place ≡ true → list_all (λ b. not (stops b)) page ≡ true
+  back : is_after_scope e.scope start.place ≡ true → list_all (λ b. not (stops b)) page ≡ true
   back before = apart_to from_start is_item page (λ between held both.
       let parts = and_parts (nat_le start.place between.place) (is_below between e) both in
       let from = leb-true start.place between.place parts.0 in
@@ -220,4 +220,4 @@ pub tell : ScopesTell
 tell tree start e there here =
     let free : Bool = list_all (λ b. not (stops tree start e here b)) (elements_of tree) in
     ap (λ b. start.place == e.place || b)
-    (and_same (is_below start e) free (is_before e.scope start.place) (λ below. bool_same free (is_before e.scope start.place) (forth tree start e here below) (back tree start e here)))
+    (and_same (is_below start e) free (is_after_scope e.scope start.place) (λ below. bool_same free (is_after_scope e.scope start.place) (forth tree start e here below) (back tree start e here)))

@@ -8,10 +8,11 @@ use Rattle.rx_microdata.specs.Elements.{Placed, is_item, names_of, is_top_level}
 use Rattle.rx_microdata.specs.Properties.{is_any, properties, is_property, starts_of, reaches}
 use Rattle.rx_microdata.specs.Facts.{said}
 use Rattle.rx_microdata.specs.Visits.{Visit, Bounds, is_cycle, items_in, visits_from, visits_to, fault_of, first_fault}
-use Rattle.rx_microdata.specs.Json.{json_of_item, item_of, named, string_of, list_of}
+use Rattle.rx_microdata.specs.Json.{json_of_item, item_of, property_pairs, array_items}
 use Rattle.rx_microdata.specs.VisitLaws.{JsonIsWhole}
 use Rattle.rx_microdata.proofs.Lists.{none, first, later, first_or_later, kept, keeps, of_one, and_parts, contradiction}
 use Rattle.rx_microdata.proofs.VisitsAre.{goes_on}
+use Rattle.rx_json.specs.Plain.{string_of}
 
 flat_map_same : {X Y : Type 0} (f g : X → List Y) (xs : List X) → ((z : X) → Contains xs z → f z ≡ g z) → flat_map f xs ≡ flat_map g xs
 flat_map_same f g [] h = refl
@@ -89,14 +90,14 @@ module _ (page : List Placed) (base : Chars) (bounds : Bounds) (more : ℕ) wher
       item_same left (root ∷ above) e (omega arith) (λ v h.
       sound v (later (root ∷ above) v _ (goes_on page (suc left) root e above (is_cycle (root ∷ above)) calm (in_item root e held i) v h))) in
       let same : json_of_item (properties page) base (suc left) root ≡ json_of_item (properties page) base (suc (left + more)) root =
-      ap (item_of base root.facts) (flat_map_same (λ e. named e (valued (is_item e) left e)) (λ e. named e (valued (is_item e) (left + more) e)) (properties page root)
-      (λ e held. ap (named e) (value_same (is_item e) left e (below e held)))) in
+      ap (item_of base root.facts) (flat_map_same (λ e. property_pairs e (valued (is_item e) left e)) (λ e. property_pairs e (valued (is_item e) (left + more) e)) (properties page root)
+      (λ e held. ap (property_pairs e) (value_same (is_item e) left e (below e held)))) in
       same ∙ sym (ap (λ n. json_of_item (properties page) base n root) s)
 
 pub whole : JsonIsWhole
 whole page base bounds more h =
     let sound = all_sound bounds 0 (visits_to page bounds) h in
-    ap (λ values. object (member (codes "items") (array (list_of values)) no_members))
+    ap (λ values. object (member (codes "items") (array (array_items values)) no_members))
     (map_same (json_of_item (properties page) base bounds.nested) (json_of_item (properties page) base (bounds.nested + more)) (filter is_top_level page)
     (λ root held. item_same page base bounds more bounds.nested [] root (omega arith)
     (λ v l. sound v (of_one (visits_from (properties page) (suc bounds.nested) []) (filter is_top_level page) root v held l))))

@@ -1,7 +1,7 @@
 -- The elements of a page as a table in document order, each with the place at which what is in it ends.
 use Rattle.std.specs.Prelude.{ℕ, suc, ◌+◌, Bool, true, false, ◌&&◌, nat_lt, List, [], ◌∷◌, ◌++◌, Option, Some, None, unwrap_or, IsTrue, if◌then◌else◌}
 use Rattle.rx_grammar.specs.Common.{Chars, StartTag, Tree, end, element, text}
-use Rattle.rx_microdata.specs.Facts.{Facts, begins_item, facts_of}
+use Rattle.rx_microdata.specs.Facts.{MicrodataFacts, begins_item, facts_of}
 
 -- an element: its place in document order, the place past all that is in it, the place of the nearest item around it, and
 -- what is read of it. Properties, visits and JSON don't rest on `scope`: laws speak of it, and the tables of a page's rows.
@@ -9,7 +9,7 @@ pub record Placed : Type 0 where
   pub place : ℕ
   pub past : ℕ
   pub scope : Option ℕ
-  pub facts : Facts
+  pub facts : MicrodataFacts
 
 -- how many elements these nodes have
 abbrev pub count : Tree → ℕ

@@ -1,6 +1,7 @@
 -- What Microdata reads of an element: HTML, 5.2.
 use Rattle.std.specs.Prelude.{ℕ, Bool, List, [], ◌∷◌, ◌++◌, Option, Some, None, option_map, unwrap_or, is_some, codes, if◌then◌else◌}
 use Rattle.rx_rdfa.specs.Common.{String, Chars, tokens, resolved, same, is_among, value_of, StartTag, Tree, end, element, text}
+use Rattle.rx_rdfa.specs.Tree.{element_text}
 
 -- a value as it is written, or a reference from which it is resolved
 pub data Value : Type 0 where
@@ -15,7 +16,7 @@ pub data Source : Type 0 where
   OrOwnText : Chars → Source
   AllText : Source
 
-pub record Facts : Type 0 where
+pub record MicrodataFacts : Type 0 where
   pub token : ℕ  -- the offset of the start tag's `<`
   pub at : ℕ  -- that of its `>`
   pub is_item : Bool
@@ -26,11 +27,11 @@ pub record Facts : Type 0 where
   pub id : Option Chars
   pub value : Value  -- of an element that is no item
 
-abbrev pub attribute : StartTag → String → Option Chars
-attribute tag name = value_of tag.attributes (codes name)
+abbrev pub attribute_value : StartTag → String → Option Chars
+attribute_value tag name = value_of tag.attributes (codes name)
 
-abbrev pub given : StartTag → String → Chars
-given tag name = unwrap_or (attribute tag name) []
+abbrev pub value_or_empty : StartTag → String → Chars
+value_or_empty tag name = unwrap_or (attribute_value tag name) []
 
 -- the texts, without those that stood before
 abbrev pub without_repeats_of : List Chars → List Chars → List Chars
@@ -44,13 +45,7 @@ distinct_tokens chars = without_repeats_of [] (tokens chars)
 
 -- HTML, 5.2.2: an item is an element with itemscope
 abbrev pub begins_item : StartTag → Bool
-begins_item tag = is_some (attribute tag "itemscope")
-
--- DOM, 4.11: the descendant text content
-abbrev pub all_text : Tree → Chars
-all_text end = []
-all_text (element tag inner more) = all_text inner ++ all_text more
-all_text (text chars more) = chars ++ all_text more
+begins_item tag = is_some (attribute_value tag "itemscope")
 
 -- DOM, 4.11: the child text content
 abbrev pub own_text : Tree → Chars
@@ -90,7 +85,7 @@ abbrev pub value_from : Source → StartTag → Tree → Value
 value_from (AsWritten name) tag inner = Written (unwrap_or (value_of tag.attributes name) [])
 value_from (AsReference name) tag inner = referred (value_of tag.attributes name)
 value_from (OrOwnText name) tag inner = Written (unwrap_or (value_of tag.attributes name) (own_text inner))
-value_from AllText tag inner = Written (all_text inner)
+value_from AllText tag inner = Written (element_text inner)
 
 -- the value of an element that is no item
 abbrev pub value_of_element : StartTag → Tree → Value
@@ -102,15 +97,15 @@ said base (Written chars) = chars
 said base (Reference reference) = resolved base reference
 
 -- HTML, 5.2.2, 5.2.3; own rule: an item's types lose repeats
-abbrev pub facts_of : StartTag → Tree → Facts
+abbrev pub facts_of : StartTag → Tree → MicrodataFacts
 facts_of tag inner = record {
   token = tag.token;
   at = tag.at;
   is_item = begins_item tag;
-  types = distinct_tokens (given tag "itemtype");
-  item_id = attribute tag "itemid";
-  references = tokens (given tag "itemref");
-  names = option_map distinct_tokens (attribute tag "itemprop");
-  id = attribute tag "id";
+  types = distinct_tokens (value_or_empty tag "itemtype");
+  item_id = attribute_value tag "itemid";
+  references = tokens (value_or_empty tag "itemref");
+  names = option_map distinct_tokens (attribute_value tag "itemprop");
+  id = attribute_value tag "id";
   value = value_of_element tag inner;
 }

@@ -18,13 +18,13 @@ abbrev pub PropertiesRise : Type 0
 PropertiesRise = (tree : Tree) (root : Placed) → Rise (properties (elements_of tree) root)
 
 -- a place comes behind the nearest item around an element
-abbrev pub is_before : Option ℕ → ℕ → Bool
-is_before None place = true
-is_before (Some scope) place = nat_lt scope place
+abbrev pub is_after_scope : Option ℕ → ℕ → Bool
+is_after_scope None place = true
+is_after_scope (Some scope) place = nat_lt scope place
 
 -- the test of the code, with no look at what is between
 abbrev pub reaches_by_scope : Placed → Placed → Bool
-reaches_by_scope e start = start.place == e.place || is_below start e && is_before e.scope start.place
+reaches_by_scope e start = start.place == e.place || is_below start e && is_after_scope e.scope start.place
 
 -- a start reaches what is below it where the nearest item around that comes before the start
 abbrev pub ScopesTell : Type 0

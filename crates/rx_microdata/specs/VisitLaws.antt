@@ -11,7 +11,7 @@ VisitsAre = (page : List Placed) (bounds : Bounds) (visit : Visit)
     → Contains (visits_to page bounds) visit ↔ (IsVisit page visit × (length visit ≤ suc bounds.nested))
 
 -- the visit at that place of the order is faulty, and none before it
-pub record IsFirst (bounds : Bounds) (visits : List Visit) (kind : Kind) (visit : Visit) : Type 0 where
+pub record IsFirstFaulty (bounds : Bounds) (visits : List Visit) (kind : Kind) (visit : Visit) : Type 0 where
   pub before : ℕ
   pub stands : slice_get visits before ≡ Some visit
   pub is_faulty : fault_of bounds before visit ≡ Some kind
@@ -19,7 +19,7 @@ pub record IsFirst (bounds : Bounds) (visits : List Visit) (kind : Kind) (visit 
 
 abbrev pub FirstFaultsAre : Type 0
 FirstFaultsAre = (bounds : Bounds) (visits : List Visit) (kind : Kind) (visit : Visit)
-    → (first_fault bounds 0 visits ≡ Some (kind, visit)) ↔ IsFirst bounds visits kind visit
+    → (first_fault bounds 0 visits ≡ Some (kind, visit)) ↔ IsFirstFaulty bounds visits kind visit
 
 -- the first fault of visits in a row: that of the first part, else that of the second, whose count goes on
 abbrev pub FaultsInRow : Type 0

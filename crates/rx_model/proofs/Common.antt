@@ -3,7 +3,7 @@ pub use Rattle.rx_model.proofs.Copied.{copies_patterns, of_pair, pattern_true}
 pub use Rattle.rx_model.proofs.Exact.{exact_nodes, exact_numbers, exact_terms, exact_texts, exact_triples}
 pub use Rattle.rx_model.proofs.Numbered.{numbers_one_to_one, place_tells}
 pub use Rattle.rx_model.proofs.Sets.{Among-contains, Among_by_contains, Among_cases, Among_distinct, Among_filter, Among_filter_map, Among_flat_map, Among_left, Among_map, Among_of_distinct, Among_of_filter, Among_of_filter_map, Among_of_flat_map, Among_of_map, Among_right, and_left, and_right, false_unless, or_cases, or_left, or_right, under_cond}
-pub use Rattle.rx_model.specs.Copied.{Closed, Leads, copied, copied_from, edge, edges, given, held, here, is_pattern, is_referenced, leads, live, onward, pattern_object, patterned, rdfa_copy, rdfa_pattern, replaced, says_pattern, spo, treated, type_pattern}
+pub use Rattle.rx_model.specs.Copied.{Closed, PairsLead, copied, copied_from, edge, edges, given, held, here, is_pattern, is_referenced, leads, live, onward, pattern_object, patterned, rdfa_copy, rdfa_pattern, replaced, says_pattern, spo, treated, type_pattern}
 pub use Rattle.rx_model.specs.Numbered.{Has, Renamed, blank_of_node, blank_of_term, blanks, blanks_of, numbered, place_in, rename, rename_node, rename_term}
 pub use Rattle.rx_model.specs.Seen.{SeenOneToOne, kind_seen, node_seen, term_seen, triple_seen, triples_seen}
 pub use Rattle.rx_model.specs.Sets.{Among, IsExact, contains, distinct, with_all, with_one}

@@ -1,7 +1,7 @@
 -- Where pairs lead.
 use Rattle.rx_terms.proofs.Common.{◌≡◌, ◌⊎◌, Bool, true, ◌&&◌, List, [], ◌∷◌, refl, ◌∙◌, subst, inl, inr, and_from}
 use Rattle.rx_model.specs.Sets.{Among, IsExact}
-use Rattle.rx_model.specs.Copied.{Leads, here, onward, leads, LeadsAlong}
+use Rattle.rx_model.specs.Copied.{PairsLead, here, onward, leads, LeadsAlong}
 use Rattle.rx_model.proofs.Sets.{or_cases, or_left, or_right, and_left, and_right}
 
 module _ {A : Type 0} (same : A → A → Bool) (exact : IsExact same) where
@@ -51,9 +51,9 @@ module _ {A : Type 0} (same : A → A → Bool) (exact : IsExact same) where
       let on : (c d : A) → leads same es c d ≡ true → P c → P d = λ c d. leads_keep P es (λ f m. step f (inr m)) c d in
       elim (leads_cases e es a b h) [ inl k ↦ on a b k p | inr v ↦ on e.1 b v.1 (step e (inl refl) (on a e.0 v.0 p)) ]
 
-  pub leads_by : (es : List (A × A)) (a b : A) → Leads es a b → leads same es a b ≡ true
+  pub leads_by : (es : List (A × A)) (a b : A) → PairsLead es a b → leads same es a b ≡ true
   leads_by es a _ here = leads_self es a
   leads_by es a _ (onward b c h m) = leads_on es a b c (leads_by es a b h) (leads_pair es b c m)
 
   pub leads_along : LeadsAlong same
-  leads_along es a b = (λ h. leads_keep (Leads es a) es (λ e m l. onward e.0 e.1 l m) a b h here, leads_by es a b)
+  leads_along es a b = (λ h. leads_keep (PairsLead es a) es (λ e m l. onward e.0 e.1 l m) a b h here, leads_by es a b)

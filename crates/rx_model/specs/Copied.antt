@@ -49,9 +49,9 @@ patterned g t = Closed g t × ¬ (Referenced (Closed g) t.subject) × ¬ (SaysLi
 -- ---- as a list
 
 -- the pairs lead from a to b, by none of them or by one after another
-pub data Leads {A : Type 0} (pairs : List (A × A)) (a : A) : A → Type 0 where
-  here : Leads pairs a a
-  onward : (b c : A) → Leads pairs a b → Among pairs (b, c) → Leads pairs a c
+pub data PairsLead {A : Type 0} (pairs : List (A × A)) (a : A) : A → Type 0 where
+  here : PairsLead pairs a a
+  onward : (b c : A) → PairsLead pairs a b → Among pairs (b, c) → PairsLead pairs a c
 
 -- the same as a test; each pair is needed once at most
 abbrev pub leads : {A : Type 0} → (A → A → Bool) → List (A × A) → A → A → Bool
@@ -60,7 +60,7 @@ leads same (e ∷ more) a b = leads same more a b || (leads same more a e.0 && l
 
 -- law: the test is that of the relation
 abbrev pub LeadsAlong : {A : Type 0} → (A → A → Bool) → Type 0
-LeadsAlong {A} same = (pairs : List (A × A)) (a b : A) → (leads same pairs a b ≡ true) ↔ Leads pairs a b
+LeadsAlong {A} same = (pairs : List (A × A)) (a b : A) → (leads same pairs a b ≡ true) ↔ PairsLead pairs a b
 
 module _ {B : Type 0} (same : B → B → Bool) where
   abbrev pub is_pattern : List (Triple B) → Node B → Bool

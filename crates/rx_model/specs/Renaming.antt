@@ -6,16 +6,16 @@ use Rattle.rx_model.specs.Sets.{Among}
 use Rattle.rx_model.specs.Copied.{copied}
 
 -- the function keeps apart what the tests keep apart
-abbrev pub Keeps : {A B : Type 0} → (A → A → Bool) → (B → B → Bool) → (A → B) → Type 0
-Keeps {A} same same' to = (a b : A) → same a b ≡ same' (to a) (to b)
+abbrev pub KeepsApart : {A B : Type 0} → (A → A → Bool) → (B → B → Bool) → (A → B) → Type 0
+KeepsApart {A} same same' to = (a b : A) → same a b ≡ same' (to a) (to b)
 
 abbrev pub NumbersForgetNames : {A B : Type 0} → (A → A → Bool) → (B → B → Bool) → Type 0
 NumbersForgetNames {A} {B} same same' =
-    (to : A → B) → Keeps same same' to → (list : List (Triple A)) → numbered same' (map (rename to) list) ≡ numbered same list
+    (to : A → B) → KeepsApart same same' to → (list : List (Triple A)) → numbered same' (map (rename to) list) ≡ numbered same list
 
 abbrev pub CopyingKeepsNames : {A B : Type 0} → (A → A → Bool) → (B → B → Bool) → Type 0
 CopyingKeepsNames {A} {B} same same' =
-    (to : A → B) → Keeps same same' to → (list : List (Triple A)) → copied same' (map (rename to) list) ≡ map (rename to) (copied same list)
+    (to : A → B) → KeepsApart same same' to → (list : List (Triple A)) → copied same' (map (rename to) list) ≡ map (rename to) (copied same list)
 
 -- law: where the blank nodes of a list have other names, each its own, what is written of it is the same
 abbrev pub NamesDoNotMatter : {A : Type 0} → (A → A → Bool) → Type 0

@@ -1,6 +1,7 @@
 -- RDF 1.1 Concepts, 3: terms, triples and graphs, over any type B of blank nodes.
-use Rattle.std.specs.Prelude.{Bool, true, false, ◌&&◌, List, bytes_eq}
+use Rattle.std.specs.Prelude.{◌≢◌, Bool, true, false, ◌&&◌, List, bytes_eq}
 use Rattle.rx_terms.specs.Text.{Chars}
+use Rattle.rx_terms.specs.Literal.{xsd_string}
 use Rattle.rx_model.specs.Sets.{Among}
 
 -- 3.3: what a literal has beside its characters: nothing (then it is an xsd:string), a language tag, or another datatype
@@ -53,3 +54,8 @@ module _ {B : Type 0} (same : B → B → Bool) where
 
   abbrev pub same_triple : Triple B → Triple B → Bool
   same_triple t u = same_node t.subject u.subject && bytes_eq t.predicate u.predicate && same_term t.object u.object
+
+-- the term is no literal that is typed xsd:string
+abbrev pub IsProper : {B : Type 0} → Term B → Type 0
+IsProper (Resource node) = Unit {0}
+IsProper (Literal text kind) = kind ≢ Typed xsd_string

@@ -1,12 +1,16 @@
 //! The model of RDF 1.1: terms, graphs and renaming, and the property copying of HTML+RDFa, over any type of blank
 //! nodes.
 //!
-//! Definitions are in `specs/`. Each function here is a law about them, and does nothing when it is called.
+//! Definitions are in `specs/`. Each function here but `is` is a law about them, and does nothing when it is called.
 #![tactic(auto)]
 
 ghost use Rattle.std.specs.Prelude.{ℕ, nat_eq};
 ghost use Rattle.rx_model.specs.Common.{Node, CopiesPatterns, LeadsAlong, NumbersOneToOne, SeenOneToOne};
 ghost use Rattle.rx_model.specs.Renaming.{NamesDoNotMatter};
+
+mod vocabulary;
+
+pub use vocabulary::{RDF_FIRST, RDF_NIL, RDF_REST, RDF_TYPE, is};
 
 /// The set of the copied list is the patterned set of the list.
 pub fn copying_follows_patterns()

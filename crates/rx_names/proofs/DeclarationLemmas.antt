@@ -1,5 +1,5 @@
 -- What a tag declares, one declaration after another.
-use Rattle.rx_names.proofs.Common.{filter-append, ap₂, on_ok_weaker, ◌≡◌, ◌≢◌, ◌∙◌, ℕ, ◌+◌, ◌<◌, ap, sym, refl, arith, Bool, true, false, cond, Option, Some, None, List, [], ◌∷◌, ◌++◌, map, reverse, filter, take, drop, length, get_or, bytes_eq, codes, append_assoc, Result, OnOk, MatchOption, Bor, ◌&&◌, ◌==◌, chars, and_from, nat_tests, lowered_char, colon, Chars, trimmed, lowered, begins_with, seen_slice, has_scheme, ascii-chars, by_test, flat_map-append, bytes_eq-Decides, map-append, take_more, reverse-append, reverse-reverse, append-nil, and_right, flat_map, Table, counts, xmlns_of, prefix_name, without_colon, pairs_after, mapping_rows, prefix_row}
+use Rattle.rx_names.proofs.Common.{filter-append, ap₂, on_ok_weaker, ◌≡◌, ◌≢◌, ◌∙◌, ℕ, ◌+◌, ◌<◌, ap, sym, refl, arith, Bool, true, false, cond, Option, Some, None, List, [], ◌∷◌, ◌++◌, map, reverse, filter, take, drop, length, get_or, bytes_eq, codes, append_assoc, Result, OnOk, MatchOption, Bor, ◌&&◌, ◌==◌, chars, and_from, nat_tests, lowered_char, colon, Chars, trimmed, lowered, begins_with, seen_slice, has_scheme, ascii-chars, by_test, flat_map-append, bytes_eq-Decides, map-append, take_more, reverse-append, reverse-reverse, append-nil, and_right, flat_map, Table, counts, xmlns_of, prefix_name, without_colon, pairs_after, mapping_rows, prefix_declaration}
 use Rattle.rx_names.specs.declared.rows.Declaration.{Declaration}
 
 pub becomes : {A E : Type 0} (r : Result A E) (new a b : List Declaration) → a ≡ b → OnOk r (new ≡ a) → OnOk r (new ≡ b)
@@ -8,7 +8,7 @@ becomes r new a b e h = on_ok_weaker r (λ k. k ∙ e) h
 -- Mappings
 
 pub mapping-append : (a b : Table) → mapping_rows (a ++ b) ≡ mapping_rows a ++ mapping_rows b
-mapping-append a b = ap (map prefix_row) (filter-append counts a b) ∙ map-append prefix_row (filter counts a) (filter counts b)
+mapping-append a b = ap (map prefix_declaration) (filter-append counts a b) ∙ map-append prefix_declaration (filter counts a) (filter counts b)
 
 lowered-char : (c : ℕ) → lowered_char (lowered_char c) ≡ lowered_char c
 lowered-char c = grind (arith, nat_tests)

@@ -1,24 +1,24 @@
 -- What is kept of a line says what the rules say of it.
-use Rattle.rx_names.proofs.Common.{on_ok_weaker, ap₂, ◌≡◌, ◌∙◌, suc, ◌≤◌, Bool, List, [], ◌∷◌, ◌++◌, map, reverse, filter, length, Option, Some, None, Result, OnOk, option_map, bytes_eq, codes, sym, ap, subst, refl, arith, length-append, append-nil, option_or, reverse-append, length-map, Chars, trimmed, begins_with, by_test, sum_by-cons, flat_map, Tag, attribute, Context, Table, value_at, counts, xmlns_of, of_prefix, declarations, declared_or, unless_empty, as_lang, prefix, vocab, language, prefix_row, vocabulary_rows, language_rows, language_attribute, rows_of, last_of, prefix_in, vocabulary_in, language_in, flattened, declared, one_if_some, Kept, kept_of, pushed, NamesStand, prefix_of, vocabulary_of, language_of, declared_along}
+use Rattle.rx_names.proofs.Common.{on_ok_weaker, ap₂, ◌≡◌, ◌∙◌, suc, ◌≤◌, Bool, List, [], ◌∷◌, ◌++◌, map, reverse, filter, length, Option, Some, None, Result, OnOk, option_map, bytes_eq, codes, sym, ap, subst, refl, arith, length-append, append-nil, option_or, reverse-append, length-map, Chars, trimmed, begins_with, by_test, sum_by-cons, flat_map, ElementTag, attribute, Context, Table, table_value, counts, xmlns_of, of_prefix, declarations, declared_or, unless_empty, as_lang, prefix, vocab, language, prefix_declaration, vocabulary_rows, language_rows, language_attribute, declared_rows, last_of, prefix_in, vocabulary_in, language_in, flattened, declared, one_if_some, KeptNames, names_kept, tag_pushed, NamesStand, kept_prefix, vocabulary_of, kept_language, declared_along}
 use Rattle.rx_names.specs.declared.rows.Declaration.{Declaration}
 use Rattle.rx_names.proofs.RowLemmas.{last-append, or-none, or-assoc}
 
 -- Prefixes
 
-value-append : (name : Chars) (xs ys : Table) → value_at name (xs ++ ys) ≡ option_or (value_at name xs) (value_at name ys)
+value-append : (name : Chars) (xs ys : Table) → table_value name (xs ++ ys) ≡ option_or (table_value name xs) (table_value name ys)
 value-append name [] ys = refl
 value-append name (x ∷ xs) ys =
     by_test (bytes_eq x.0 name) (λ t. rw t refl) (λ t. rw t (value-append name xs ys))
 
-one-value : (name : Chars) (row : Chars × Chars) → prefix_in name (prefix_row row) ≡ value_at name (row ∷ [])
+one-value : (name : Chars) (row : Chars × Chars) → prefix_in name (prefix_declaration row) ≡ table_value name (row ∷ [])
 one-value name row = by_test (bytes_eq row.0 name) (λ t. rw t refl) (λ t. rw t refl)
 
-last-prefix : (name : Chars) (table : Table) → last_of (prefix_in name) (map prefix_row table) ≡ value_at name (reverse table)
+last-prefix : (name : Chars) (table : Table) → last_of (prefix_in name) (map prefix_declaration table) ≡ table_value name (reverse table)
 last-prefix name [] = refl
 last-prefix name (row ∷ table) =
-    ap (λ o. option_or o (prefix_in name (prefix_row row))) (last-prefix name table)
-    ∙ ap (option_or (value_at name (reverse table))) (one-value name row)
-    ∙ sym (ap (value_at name) (reverse-append (row ∷ []) table) ∙ value-append name (reverse table) (row ∷ []))
+    ap (λ o. option_or o (prefix_in name (prefix_declaration row))) (last-prefix name table)
+    ∙ ap (option_or (table_value name (reverse table))) (one-value name row)
+    ∙ sym (ap (table_value name) (reverse-append (row ∷ []) table) ∙ value-append name (reverse table) (row ∷ []))
 
 -- what the rows of a vocabulary and of a language say
 said-last : (name : Chars) (v l : Option Chars) → (last_of (prefix_in name) (vocabulary_rows v ++ language_rows l) ≡ None)
@@ -29,23 +29,23 @@ said-last name None (Some l) = (refl, refl, refl)
 said-last name (Some v) None = (refl, refl, refl)
 said-last name (Some v) (Some l) = (refl, refl, refl)
 
-prefix-tag : (name : Chars) (tag : Tag) → last_of (prefix_in name) (rows_of tag) ≡ value_at name (reverse (declarations tag))
+prefix-tag : (name : Chars) (tag : ElementTag) → last_of (prefix_in name) (declared_rows tag) ≡ table_value name (reverse (declarations tag))
 prefix-tag name tag =
-    last-append (prefix_in name) (map prefix_row (declarations tag)) (vocabulary_rows (attribute tag (codes "vocab")) ++ language_rows (language_attribute tag))
-    ∙ ap (λ o. option_or o (last_of (prefix_in name) (map prefix_row (declarations tag)))) (said-last name (attribute tag (codes "vocab")) (language_attribute tag)).0
+    last-append (prefix_in name) (map prefix_declaration (declarations tag)) (vocabulary_rows (attribute tag (codes "vocab")) ++ language_rows (language_attribute tag))
+    ∙ ap (λ o. option_or o (last_of (prefix_in name) (map prefix_declaration (declarations tag)))) (said-last name (attribute tag (codes "vocab")) (language_attribute tag)).0
     ∙ last-prefix name (declarations tag)
 
-prefix-kept : (context : Context) (line : List Tag) (name : Chars) → option_or (last_of (prefix_in name) (kept_of context line).rows) (value_at name context.prefixes) ≡ prefix context line name
+prefix-kept : (context : Context) (line : List ElementTag) (name : Chars) → option_or (last_of (prefix_in name) (names_kept context line).rows) (table_value name context.prefixes) ≡ prefix context line name
 prefix-kept context [] name = refl
 prefix-kept context (tag ∷ above) name =
-    ap (λ o. option_or o (value_at name context.prefixes)) (last-append (prefix_in name) (kept_of context above).rows (rows_of tag))
-    ∙ or-assoc (last_of (prefix_in name) (rows_of tag)) (last_of (prefix_in name) (kept_of context above).rows) (value_at name context.prefixes)
-    ∙ ap (λ o. option_or o (option_or (last_of (prefix_in name) (kept_of context above).rows) (value_at name context.prefixes))) (prefix-tag name tag)
-    ∙ ap (option_or (value_at name (reverse (declarations tag)))) (prefix-kept context above name)
+    ap (λ o. option_or o (table_value name context.prefixes)) (last-append (prefix_in name) (names_kept context above).rows (declared_rows tag))
+    ∙ or-assoc (last_of (prefix_in name) (declared_rows tag)) (last_of (prefix_in name) (names_kept context above).rows) (table_value name context.prefixes)
+    ∙ ap (λ o. option_or o (option_or (last_of (prefix_in name) (names_kept context above).rows) (table_value name context.prefixes))) (prefix-tag name tag)
+    ∙ ap (option_or (table_value name (reverse (declarations tag)))) (prefix-kept context above name)
 
-pub prefix-line : (kept : Kept) (line : List Tag) (name : Chars) → NamesStand kept line → prefix_of kept name ≡ prefix kept.context line name
+pub prefix-line : (kept : KeptNames) (line : List ElementTag) (name : Chars) → NamesStand kept line → kept_prefix kept name ≡ prefix kept.context line name
 prefix-line kept line name s =
-    ap (λ (k : Kept). option_or (last_of (prefix_in name) k.rows) (value_at name kept.context.prefixes)) s.is ∙ prefix-kept kept.context line name
+    ap (λ (k : KeptNames). option_or (last_of (prefix_in name) k.rows) (table_value name kept.context.prefixes)) s.is ∙ prefix-kept kept.context line name
 
 -- The default vocabulary and the language
 
@@ -55,50 +55,50 @@ said-or None f before = refl
 said-or (Some value) f before = refl
 
 -- what is said by rows of a kind of which a tag has one at most
-module _ (said : Declaration → Option (Option Chars)) (silent : (row : Chars × Chars) → said (prefix_row row) ≡ None) (of : Tag → Option Chars) (say : Chars → Option Chars)
-    (last : (tag : Tag) → last_of said (vocabulary_rows (attribute tag (codes "vocab")) ++ language_rows (language_attribute tag)) ≡ option_map say (of tag))
-    (along : List Tag → Option Chars) (first : along [] ≡ None) (next : (tag : Tag) (above : List Tag) → along (tag ∷ above) ≡ declared_or (of tag) say (along above)) where
-  none-said : (table : Table) → last_of said (map prefix_row table) ≡ None
+module _ (said : Declaration → Option (Option Chars)) (silent : (row : Chars × Chars) → said (prefix_declaration row) ≡ None) (of : ElementTag → Option Chars) (say : Chars → Option Chars)
+    (last : (tag : ElementTag) → last_of said (vocabulary_rows (attribute tag (codes "vocab")) ++ language_rows (language_attribute tag)) ≡ option_map say (of tag))
+    (along : List ElementTag → Option Chars) (first : along [] ≡ None) (next : (tag : ElementTag) (above : List ElementTag) → along (tag ∷ above) ≡ declared_or (of tag) say (along above)) where
+  none-said : (table : Table) → last_of said (map prefix_declaration table) ≡ None
   none-said [] = refl
   none-said (row ∷ table) = ap₂ option_or (none-said table) (silent row)
 
-  said-tag : (tag : Tag) → last_of said (rows_of tag) ≡ option_map say (of tag)
+  said-tag : (tag : ElementTag) → last_of said (declared_rows tag) ≡ option_map say (of tag)
   said-tag tag =
       let rest = vocabulary_rows (attribute tag (codes "vocab")) ++ language_rows (language_attribute tag) in
-      last-append said (map prefix_row (declarations tag)) rest ∙ ap (option_or (last_of said rest)) (none-said (declarations tag)) ∙ or-none (last_of said rest) ∙ last tag
+      last-append said (map prefix_declaration (declarations tag)) rest ∙ ap (option_or (last_of said rest)) (none-said (declarations tag)) ∙ or-none (last_of said rest) ∙ last tag
 
-  said-kept : (context : Context) (line : List Tag) → flattened (last_of said (kept_of context line).rows) ≡ along line
+  said-kept : (context : Context) (line : List ElementTag) → flattened (last_of said (names_kept context line).rows) ≡ along line
   said-kept context [] = sym first
   said-kept context (tag ∷ above) =
-      let before = last_of said (kept_of context above).rows in
-      ap flattened (last-append said (kept_of context above).rows (rows_of tag) ∙ ap (λ o. option_or o before) (said-tag tag))
+      let before = last_of said (names_kept context above).rows in
+      ap flattened (last-append said (names_kept context above).rows (declared_rows tag) ∙ ap (λ o. option_or o before) (said-tag tag))
       ∙ said-or (of tag) say before ∙ ap (declared_or (of tag) say) (said-kept context above) ∙ sym (next tag above)
 
-pub vocabulary-line : (kept : Kept) (line : List Tag) → NamesStand kept line → vocabulary_of kept ≡ vocab line
+pub vocabulary-line : (kept : KeptNames) (line : List ElementTag) → NamesStand kept line → vocabulary_of kept ≡ vocab line
 vocabulary-line kept line s =
     ap vocabulary_of s.is
     ∙ said-kept vocabulary_in (λ row. refl) (λ tag. attribute tag (codes "vocab")) (λ value. unless_empty (trimmed value))
     (λ tag. (said-last [] (attribute tag (codes "vocab")) (language_attribute tag)).1) vocab refl (λ tag above. refl) kept.context line
 
-pub language-line : (kept : Kept) (line : List Tag) → NamesStand kept line → language_of kept ≡ language line
+pub language-line : (kept : KeptNames) (line : List ElementTag) → NamesStand kept line → kept_language kept ≡ language line
 language-line kept line s =
-    ap language_of s.is
+    ap kept_language s.is
     ∙ said-kept language_in (λ row. refl) language_attribute as_lang
     (λ tag. (said-last [] (attribute tag (codes "vocab")) (language_attribute tag)).2) language refl (λ tag above. refl) kept.context line
 
 -- A tag that declares nothing
 
-none_pushed : (kept : Kept) (tag : Tag) → rows_of tag ≡ [] → pushed kept tag ≡ record { context = kept.context; rows = kept.rows; marks = kept.marks ++ length kept.rows ∷ [] }
+none_pushed : (kept : KeptNames) (tag : ElementTag) → declared_rows tag ≡ [] → tag_pushed kept tag ≡ record { context = kept.context; rows = kept.rows; marks = kept.marks ++ length kept.rows ∷ [] }
 none_pushed kept tag e =
     ap (λ (r : List Declaration). record { context = kept.context; rows = r; marks = kept.marks ++ length kept.rows ∷ [] }) (ap (λ (r : List Declaration). kept.rows ++ r) e ∙ append-nil kept.rows)
 
-pub none_is_pushed : {E : Type 0} (r : Result (Unit {0}) E) (old new : Kept) (tag : Tag) → rows_of tag ≡ []
-    → OnOk r (new ≡ record { context = old.context; rows = old.rows; marks = old.marks ++ length old.rows ∷ [] }) → OnOk r (new ≡ pushed old tag)
+pub none_is_pushed : {E : Type 0} (r : Result (Unit {0}) E) (old new : KeptNames) (tag : ElementTag) → declared_rows tag ≡ []
+    → OnOk r (new ≡ record { context = old.context; rows = old.rows; marks = old.marks ++ length old.rows ∷ [] }) → OnOk r (new ≡ tag_pushed old tag)
 none_is_pushed r old new tag e h = on_ok_weaker r (λ k. k ∙ sym (none_pushed old tag e)) h
 
-pub pushed_stands : {E : Type 0} (r : Result (Unit {0}) E) (old new : Kept) (tag : Tag) → OnOk r (new ≡ pushed old tag)
-    → OnOk r ((line : List Tag) → NamesStand old line → NamesStand new (tag ∷ line))
-pushed_stands r old new tag e = on_ok_weaker r (λ h line s. subst (λ (k : Kept). NamesStand k (tag ∷ line)) (sym h) (record { is = ap (λ (k : Kept). pushed k tag) s.is })) e
+pub pushed_stands : {E : Type 0} (r : Result (Unit {0}) E) (old new : KeptNames) (tag : ElementTag) → OnOk r (new ≡ tag_pushed old tag)
+    → OnOk r ((line : List ElementTag) → NamesStand old line → NamesStand new (tag ∷ line))
+pushed_stands r old new tag e = on_ok_weaker r (λ h line s. subst (λ (k : KeptNames). NamesStand k (tag ∷ line)) (sym h) (record { is = ap (λ (k : KeptNames). tag_pushed k tag) s.is })) e
 
 -- How many rows there are
 
@@ -123,14 +123,14 @@ language-count : (l : Option Chars) → length (language_rows l) ≡ one_if_some
 language-count None = refl
 language-count (Some l) = refl
 
-tag-count : (tag : Tag) → length (rows_of tag) ≤ declared tag
+tag-count : (tag : ElementTag) → length (declared_rows tag) ≤ declared tag
 tag-count tag =
     let all = flat_map xmlns_of tag.attributes ++ of_prefix (attribute tag (codes "prefix")) in
     omega (
       arith,
-      length-append (map prefix_row (declarations tag)) (vocabulary_rows (attribute tag (codes "vocab")) ++ language_rows (language_attribute tag)),
+      length-append (map prefix_declaration (declarations tag)) (vocabulary_rows (attribute tag (codes "vocab")) ++ language_rows (language_attribute tag)),
       length-append (vocabulary_rows (attribute tag (codes "vocab"))) (language_rows (language_attribute tag)),
-      length-map (declarations tag) prefix_row,
+      length-map (declarations tag) prefix_declaration,
       filter-shorter counts all,
       length-append (flat_map xmlns_of tag.attributes) (of_prefix (attribute tag (codes "prefix"))),
       namespaces-count tag.attributes,
@@ -138,9 +138,9 @@ tag-count tag =
       language-count (language_attribute tag),
     )
 
-rows-kept : (context : Context) (line : List Tag) → length (kept_of context line).rows ≤ declared_along line
+rows-kept : (context : Context) (line : List ElementTag) → length (names_kept context line).rows ≤ declared_along line
 rows-kept context [] = omega arith
-rows-kept context (tag ∷ above) = omega (arith, length-append (kept_of context above).rows (rows_of tag), rows-kept context above, tag-count tag, sum_by-cons declared tag above)
+rows-kept context (tag ∷ above) = omega (arith, length-append (names_kept context above).rows (declared_rows tag), rows-kept context above, tag-count tag, sum_by-cons declared tag above)
 
-pub rows-line : (kept : Kept) (line : List Tag) → NamesStand kept line → length kept.rows ≤ declared_along line
-rows-line kept line s = omega (arith, ap (λ (k : Kept). length k.rows) s.is, rows-kept kept.context line)
+pub rows-line : (kept : KeptNames) (line : List ElementTag) → NamesStand kept line → length kept.rows ≤ declared_along line
+rows-line kept line s = omega (arith, ap (λ (k : KeptNames). length k.rows) s.is, rows-kept kept.context line)

@@ -1,5 +1,5 @@
 -- Marks of names.
-use Rattle.rx_names.proofs.Common.{by_test, option_or, chars, IsUtf8, nat_tests, encodes-chars, Chars, trimmed, lowered, begins_with, or_parts, flat_map-append, bytes_eq-Decides, ◌≡◌, ◌∙◌, ℕ, ◌/◌, true, false, Bool, List, [], ◌∷◌, ◌++◌, map, filter, Option, Some, None, MatchOption, Bor, take, drop, length, get_or, codes, ◌+◌, ◌<◌, bytes_eq, cond, sym, ap, subst, refl, arith, ◌==◌, ◌||◌, is_some, bit_and, bit_or, take_more, append-nil, flat_map, Tag, attribute, value_of_first, Table, counts, xmlns_of, of_prefix, mark_of, name_mark, has_mark, Marked, prefix_row, vocabulary_rows, language_rows, rows_of}
+use Rattle.rx_names.proofs.Common.{by_test, option_or, chars, IsUtf8, nat_tests, encodes-chars, Chars, trimmed, lowered, begins_with, or_parts, flat_map-append, bytes_eq-Decides, ◌≡◌, ◌∙◌, ℕ, ◌/◌, true, false, Bool, List, [], ◌∷◌, ◌++◌, map, filter, Option, Some, None, MatchOption, Bor, take, drop, length, get_or, codes, ◌+◌, ◌<◌, bytes_eq, cond, sym, ap, subst, refl, arith, ◌==◌, ◌||◌, is_some, bit_and, bit_or, take_more, append-nil, flat_map, ElementTag, attribute, value_of_first, Table, counts, xmlns_of, of_prefix, mark_bit, name_mark, has_mark, MarksNames, prefix_declaration, vocabulary_rows, language_rows, declared_rows}
 use lib.Bits.{or_shr}
 use Rattle.std.proofs.lemmas.Nat.{and_or_self}
 use Rattle.std.proofs.Math.Arith.{bin_ind}
@@ -21,10 +21,10 @@ or_keeps word more mask h = let set : bit_and word mask ≡ mask = grind (arith,
 or_has : (word mask : ℕ) → (bit_and (bit_or word mask) mask == mask) ≡ true
 or_has word mask = grind (arith, nat_tests, and_or_self mask word)
 
-pub mark_of_chars : (bytes : List ℕ) → IsUtf8 bytes → mark_of bytes ≡ name_mark (chars bytes)
-mark_of_chars bytes u = ap mark_of (sym (encodes-chars bytes u))
+pub mark_of_chars : (bytes : List ℕ) → IsUtf8 bytes → mark_bit bytes ≡ name_mark (chars bytes)
+mark_of_chars bytes u = ap mark_bit (sym (encodes-chars bytes u))
 
-pub none_marked : (marks : ℕ) → Marked marks []
+pub none_marked : (marks : ℕ) → MarksNames marks []
 none_marked marks name h = refl
 
 last_value : (attributes : List (Chars × Chars)) (name key value : Chars) → bytes_eq key name ≡ false → value_of_first attributes name ≡ None → value_of_first (attributes ++ (key, value) ∷ []) name ≡ None
@@ -32,7 +32,7 @@ last_value [] name key value d h = ap (λ b. cond b (Some value) None) d
 last_value (a ∷ more) name key value d h =
     by_test (bytes_eq a.0 name) (λ t. absurd (cc (rw t at h))) (λ f. rw f (last_value more name key value d (rw f at h)))
 
-pub one_more : (marks : ℕ) (attributes : List (Chars × Chars)) (key value : Chars) → Marked marks attributes → Marked (bit_or marks (name_mark key)) (attributes ++ (key, value) ∷ [])
+pub one_more : (marks : ℕ) (attributes : List (Chars × Chars)) (key value : Chars) → MarksNames marks attributes → MarksNames (bit_or marks (name_mark key)) (attributes ++ (key, value) ∷ [])
 one_more marks attributes key value m name h = last_value attributes name key value other (m name before) where
   before : has_mark marks name ≡ false
   before = by_test (has_mark marks name) (λ t. absurd (cc (or_keeps marks (name_mark key) (name_mark name) t, h))) (λ f. f)
@@ -44,11 +44,11 @@ one_more marks attributes key value m name h = last_value attributes name key va
       absurd (cc (has, h))) (λ f. f)
 
 -- one attribute more of those at the front
-pub one_taken : (attributes : List (Chars × Chars)) (i marks mark : ℕ) (a : Chars × Chars) → i < length attributes → get_or attributes i a ≡ a → mark ≡ name_mark a.0 → Marked marks (take i attributes)
-    → Marked (bit_or marks mark) (take (i + 1) attributes)
+pub one_taken : (attributes : List (Chars × Chars)) (i marks mark : ℕ) (a : Chars × Chars) → i < length attributes → get_or attributes i a ≡ a → mark ≡ name_mark a.0 → MarksNames marks (take i attributes)
+    → MarksNames (bit_or marks mark) (take (i + 1) attributes)
 one_taken attributes i marks mark a within at is m =
     let more : take (i + 1) attributes ≡ take i attributes ++ a ∷ [] = take_more attributes i a within ∙ ap (λ x. take i attributes ++ x ∷ []) at in
-    subst (λ n. Marked (bit_or marks n) (take (i + 1) attributes)) (sym is) (subst (λ l. Marked (bit_or marks (name_mark a.0)) l) (sym more) (one_more marks (take i attributes) a.0 a.1 m))
+    subst (λ n. MarksNames (bit_or marks n) (take (i + 1) attributes)) (sym is) (subst (λ l. MarksNames (bit_or marks (name_mark a.0)) l) (sym more) (one_more marks (take i attributes) a.0 a.1 m))
 
 -- Attributes `xmlns:NAME`
 
@@ -76,13 +76,13 @@ none_of_all false false false false false h = (refl, refl, refl, refl, refl)
 none_of_all _ _ _ _ _ h = absurd (cc h)
 
 -- a tag that has none of the names by which names are declared
-pub declares_none : (tag : Tag) (namespaces prefix vocab xml_lang lang : Bool)
+pub declares_none : (tag : ElementTag) (namespaces prefix vocab xml_lang lang : Bool)
     → (namespaces ≡ false → flat_map xmlns_of tag.attributes ≡ []) → (prefix ≡ false → attribute tag (codes "prefix") ≡ None) → (vocab ≡ false → attribute tag (codes "vocab") ≡ None)
     → (xml_lang ≡ false → attribute tag (codes "xml:lang") ≡ None) → (lang ≡ false → attribute tag (codes "lang") ≡ None)
-    → (namespaces || prefix || vocab || xml_lang || lang) ≡ false → rows_of tag ≡ []
+    → (namespaces || prefix || vocab || xml_lang || lang) ≡ false → declared_rows tag ≡ []
 declares_none tag namespaces prefix vocab xml_lang lang n p v x l e =
     let q = none_of_all namespaces prefix vocab xml_lang lang e in
     none_of (flat_map xmlns_of tag.attributes) (attribute tag (codes "prefix")) (attribute tag (codes "vocab")) (attribute tag (codes "xml:lang")) (attribute tag (codes "lang")) (n q.0) (p q.1) (v q.2) (x q.3) (l q.4) where
       none_of : (table : Table) (prefix vocab xml_lang lang : Option Chars) → table ≡ [] → prefix ≡ None → vocab ≡ None → xml_lang ≡ None → lang ≡ None
-          → map prefix_row (filter counts (table ++ of_prefix prefix)) ++ (vocabulary_rows vocab ++ language_rows (option_or xml_lang lang)) ≡ []
+          → map prefix_declaration (filter counts (table ++ of_prefix prefix)) ++ (vocabulary_rows vocab ++ language_rows (option_or xml_lang lang)) ≡ []
       none_of table prefix vocab xml_lang lang a b c d e = rw (a, b, c, d, e) refl

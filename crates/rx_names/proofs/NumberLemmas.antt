@@ -5,7 +5,7 @@ use Rattle.std.specs.Hash.DefaultHasher as sip
 use Rattle.std.specs.Hash as fed
 use Rattle.std.specs.declared.hash.DefaultHasher.{DefaultHasher}
 use Rattle.rx_words.proofs.CaseLemmas.{encodes-lower}
-use Rattle.rx_names.specs.Numbers.{number_of}
+use Rattle.rx_terms.specs.Iri.{number_of}
 
 one-byte : (s t : DefaultHasher) (b : ℕ) (bytes : List ℕ) → t ≡ fold sip.write s (fed.u8 b) → sip.write t bytes ≡ sip.write s (b ∷ bytes)
 unfolding sip.write

@@ -4,7 +4,7 @@ use Rattle.rx_rdfa.specs.Common.{chars, is_utf8, Chars, lowered, is_iri, Table, 
 use Rattle.serde_json.specs.Data.{Data, Members, no_members, member}
 use Rattle.serde_json.specs.Read.{read}
 use Rattle.serde_json.specs.Find.{get, as_str, as_object}
-use Rattle.rx_names.specs.Tables.{put}
+use Rattle.rx_names.specs.Tables.{row_put}
 use Rattle.rx_names.specs.declared.context_files.MappingKind.{MappingKind}
 use Rattle.rx_names.specs.declared.context_files.MappingKind.TheVariants.{Prefix, Term}
 
@@ -15,22 +15,22 @@ prefix_row name iri = if is_nc_name name && not (bytes_eq name (codes "_")) && i
 abbrev pub term_row : Chars → Chars → Option (Chars × Chars)
 term_row name iri = if is_term name && is_iri iri then Some (name, iri) else None
 
-abbrev pub row_of : MappingKind → Chars → Chars → Option (Chars × Chars)
-row_of Prefix name iri = prefix_row (lowered name) iri
-row_of Term name iri = term_row name iri
+abbrev pub mapping_row : MappingKind → Chars → Chars → Option (Chars × Chars)
+mapping_row Prefix name iri = prefix_row (lowered name) iri
+mapping_row Term name iri = term_row name iri
 
-abbrev pub text_of : Data → Option Chars
-text_of value = option_map chars (as_str value)
+abbrev pub data_text : Data → Option Chars
+data_text value = option_map chars (as_str value)
 
 -- the rows in byte order, each put into its place; none where a name comes twice
 abbrev pub table_on : MappingKind → Table → Members → Option Table
 table_on kind table no_members = Some table
 table_on kind table (member name value more) =
-    option_and_then (λ row. option_and_then (λ grown. table_on kind grown more) (put row table)) (option_and_then (row_of kind (chars name)) (text_of value))
+    option_and_then (λ row. option_and_then (λ grown. table_on kind grown more) (row_put row table)) (option_and_then (mapping_row kind (chars name)) (data_text value))
 
-abbrev pub table_of : MappingKind → Option Data → Option Table
-table_of kind None = Some []
-table_of kind (Some value) = option_and_then (table_on kind []) (as_object value)
+abbrev pub mapping_table : MappingKind → Option Data → Option Table
+mapping_table kind None = Some []
+mapping_table kind (Some value) = option_and_then (table_on kind []) (as_object value)
 
 abbrev pub are_known : Members → Bool
 are_known no_members = true
@@ -43,7 +43,7 @@ context_with (Some prefixes) (Some terms) = Some (record { prefixes = prefixes; 
 
 abbrev pub context_of_members : Data → Members → Option Context
 context_of_members value members =
-    if are_known members then context_with (table_of Prefix (get (codes "prefixes") value)) (table_of Term (get (codes "terms") value)) else None
+    if are_known members then context_with (mapping_table Prefix (get (codes "prefixes") value)) (mapping_table Term (get (codes "terms") value)) else None
 
 abbrev pub context_of_data : Data → Option Context
 context_of_data value = option_and_then (context_of_members value) (as_object value)

@@ -1,22 +1,22 @@
 -- The names in force along a line of tags, as they are kept: all rows of the tags, and for each tag how many stood below it.
 use Rattle.std.specs.Prelude.{◌≡◌, ℕ, ◌-◌, List, [], ◌∷◌, ◌++◌, take, length, slice_index, sum_by, Option}
-use Rattle.rx_rdfa.specs.Common.{option_or, Chars, Tag, Context, value_at}
+use Rattle.rx_rdfa.specs.Common.{option_or, Chars, ElementTag, Context, table_value}
 use Rattle.rx_names.specs.declared.rows.Declaration.{Declaration}
-use Rattle.rx_names.specs.Rows.{rows_of, last_of, prefix_in, vocabulary_in, language_in, flattened, declared}
+use Rattle.rx_names.specs.Rows.{declared_rows, last_of, prefix_in, vocabulary_in, language_in, flattened, declared}
 
-pub record Kept : Type 0 where
+pub record KeptNames : Type 0 where
   pub context : Context
   pub rows : List Declaration
   pub marks : List ℕ
 
-abbrev pub no_tags : Context → Kept
+abbrev pub no_tags : Context → KeptNames
 no_tags context = record { context = context; rows = []; marks = [] }
 
-abbrev pub pushed : Kept → Tag → Kept
-pushed kept tag = record { context = kept.context; rows = kept.rows ++ rows_of tag; marks = kept.marks ++ length kept.rows ∷ [] }
+abbrev pub tag_pushed : KeptNames → ElementTag → KeptNames
+tag_pushed kept tag = record { context = kept.context; rows = kept.rows ++ declared_rows tag; marks = kept.marks ++ length kept.rows ∷ [] }
 
 -- without the last tag
-abbrev pub popped : Kept → Kept
+abbrev pub popped : KeptNames → KeptNames
 popped kept = record {
   context = kept.context;
   rows = take (slice_index kept.marks (length kept.marks - 1)) kept.rows;
@@ -24,22 +24,22 @@ popped kept = record {
 }
 
 -- what is kept of a line, the nearest tag coming first
-abbrev pub kept_of : Context → List Tag → Kept
-kept_of context [] = no_tags context
-kept_of context (tag ∷ above) = pushed (kept_of context above) tag
+abbrev pub names_kept : Context → List ElementTag → KeptNames
+names_kept context [] = no_tags context
+names_kept context (tag ∷ above) = tag_pushed (names_kept context above) tag
 
 -- what is kept is that of this line
-pub record NamesStand (kept : Kept) (line : List Tag) : Type 0 where
-  pub is : kept ≡ kept_of kept.context line
+pub record NamesStand (kept : KeptNames) (line : List ElementTag) : Type 0 where
+  pub is : kept ≡ names_kept kept.context line
 
-abbrev pub prefix_of : Kept → Chars → Option Chars
-prefix_of kept name = option_or (last_of (prefix_in name) kept.rows) (value_at name kept.context.prefixes)
+abbrev pub kept_prefix : KeptNames → Chars → Option Chars
+kept_prefix kept name = option_or (last_of (prefix_in name) kept.rows) (table_value name kept.context.prefixes)
 
-abbrev pub vocabulary_of : Kept → Option Chars
+abbrev pub vocabulary_of : KeptNames → Option Chars
 vocabulary_of kept = flattened (last_of vocabulary_in kept.rows)
 
-abbrev pub language_of : Kept → Option Chars
-language_of kept = flattened (last_of language_in kept.rows)
+abbrev pub kept_language : KeptNames → Option Chars
+kept_language kept = flattened (last_of language_in kept.rows)
 
-abbrev pub declared_along : List Tag → ℕ
+abbrev pub declared_along : List ElementTag → ℕ
 declared_along line = sum_by declared line

@@ -1,14 +1,11 @@
 -- Numbers by which declarations are found. Declarations of one prefix have one number, others may share it.
 use Rattle.std.specs.Prelude.{◌≡◌, ℕ, true, List, map}
-use Rattle.rx_terms.specs.Common.{list_all, encode_utf8_all, Chars}
+use Rattle.rx_terms.specs.Common.{list_all}
 use Rattle.std.specs.Hash.DefaultHasher as sip
 use Rattle.rx_names.specs.declared.rows.Declaration.{Declaration}
 use Rattle.rx_names.specs.declared.rows.Declaration.TheVariants as row
 use Rattle.rx_names.specs.Rows.{is_sound}
-
--- the SipHash of the text
-unfoldable pub number_of : Chars → ℕ
-number_of text = sip.finish (sip.write sip.initial (encode_utf8_all text))
+use Rattle.rx_terms.specs.Iri.{number_of}
 
 abbrev pub row_number : Declaration → ℕ
 row_number (row.Prefix key iri) = number_of key

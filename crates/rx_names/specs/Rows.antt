@@ -1,15 +1,15 @@
 -- The declarations that are kept of a tag, and what a list of them says.
 use Rattle.std.specs.Prelude.{ℕ, ◌+◌, Bool, true, ◌&&◌, List, [], ◌∷◌, ◌++◌, map, Option, Some, None, codes, bytes_eq, filter, length, if◌then◌else◌}
-use Rattle.rx_rdfa.specs.Common.{option_or, Chars, trimmed, lowered, begins_with, has_scheme, Tag, attribute, Table, counts, declarations, of_prefix, unless_empty, as_lang}
+use Rattle.rx_rdfa.specs.Common.{option_or, Chars, trimmed, lowered, begins_with, has_scheme, ElementTag, attribute, Table, counts, declarations, of_prefix, unless_empty, as_lang}
 use Rattle.rx_names.specs.declared.rows.Declaration.{Declaration}
 use Rattle.rx_names.specs.declared.rows.Declaration.TheVariants as row
 
-abbrev pub prefix_row : Chars × Chars → Declaration
-prefix_row mapping = row.Prefix mapping.0 mapping.1
+abbrev pub prefix_declaration : Chars × Chars → Declaration
+prefix_declaration mapping = row.Prefix mapping.0 mapping.1
 
 -- the mappings that count
 abbrev pub mapping_rows : Table → List Declaration
-mapping_rows table = map prefix_row (filter counts table)
+mapping_rows table = map prefix_declaration (filter counts table)
 
 abbrev pub vocabulary_rows : Option Chars → List Declaration
 vocabulary_rows None = []
@@ -19,12 +19,12 @@ abbrev pub language_rows : Option Chars → List Declaration
 language_rows None = []
 language_rows (Some value) = row.Language (as_lang value) ∷ []
 
-abbrev pub language_attribute : Tag → Option Chars
+abbrev pub language_attribute : ElementTag → Option Chars
 language_attribute tag = option_or (attribute tag (codes "xml:lang")) (attribute tag (codes "lang"))
 
 -- the declarations of a tag that count, in the order in which a later one holds before an earlier one
-abbrev pub rows_of : Tag → List Declaration
-rows_of tag = map prefix_row (declarations tag) ++ (vocabulary_rows (attribute tag (codes "vocab")) ++ language_rows (language_attribute tag))
+abbrev pub declared_rows : ElementTag → List Declaration
+declared_rows tag = map prefix_declaration (declarations tag) ++ (vocabulary_rows (attribute tag (codes "vocab")) ++ language_rows (language_attribute tag))
 
 -- the last of the rows of which `f` says something
 abbrev pub last_of : {A : Type 0} → (Declaration → Option A) → List Declaration → Option A
@@ -62,7 +62,7 @@ one_if_some (Some value) = 1
 
 -- how many declarations a tag has, those that don't count among them: its attributes `xmlns:NAME`, its pairs in `prefix`,
 -- one for `vocab`, and one for `xml:lang` and `lang`
-abbrev pub declared : Tag → ℕ
+abbrev pub declared : ElementTag → ℕ
 declared tag =
     length (filter (λ a. begins_with (codes "xmlns:") a.0) tag.attributes) + length (of_prefix (attribute tag (codes "prefix")))
     + (one_if_some (attribute tag (codes "vocab")) + one_if_some (language_attribute tag))

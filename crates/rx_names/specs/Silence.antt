@@ -1,9 +1,9 @@
 -- Tags of which RDFa reads no attribute but those that declare a prefix or a language.
 use Rattle.std.specs.Prelude.{◌≡◌, None, codes}
-use Rattle.rx_rdfa.specs.Tree.{Tag, attribute}
+use Rattle.rx_rdfa.specs.Tree.{ElementTag, attribute}
 
 -- the tag has none of the other attributes of which the rules speak (RDFa Core 1.1, section 5; HTML+RDFa 1.1, section 3.1)
-pub record IsSilent (tag : Tag) : Type 0 where
+pub record IsSilent (tag : ElementTag) : Type 0 where
   pub about : attribute tag (codes "about") ≡ None
   pub resource : attribute tag (codes "resource") ≡ None
   pub href : attribute tag (codes "href") ≡ None

@@ -1,10 +1,11 @@
 //! Attributes by their names.
 ghost use Rattle.std.specs.Prelude.{◌≡◌, ◌||◌, [], None, true, false, codes, get_or};
 ghost use Rattle.rx_rdfa.specs.Common.{list_all, chars, is_ascii, attribute, seen_slice, begins_with};
-ghost use Rattle.rx_names.specs.Marks.{mark_of, name_mark, has_mark};
-ghost use Rattle.rx_names.specs.Rows.{rows_of};
+ghost use Rattle.rx_names.specs.Marks.{mark_bit, name_mark, has_mark};
+ghost use Rattle.rx_names.specs.Rows.{declared_rows};
 ghost use Rattle.rx_names.specs.Silence.{IsSilent};
-ghost use Rattle.rx_names.specs.Tags.{tag_of};
+ghost use Rattle.rx_tags.specs.Seen.{tag_seen};
+ghost use Rattle.rx_rdfa.specs.Pages.{token_tag};
 
 use rx_tags::Tag;
 use rx_words::behind;
@@ -13,7 +14,7 @@ use std::marker::Model;
 /// The value of the tag's first attribute of that name, which is ASCII.
 pub fn attribute<'a>(tag: &Tag<'a>, name: &str) -> Option<&'a str>
     requires { list_all is_ascii name.now ≡ true }
-    ensures { seen_slice result ≡ attribute (tag_of tag.now) name.now }
+    ensures { seen_slice result ≡ attribute (token_tag (tag_seen tag.now)) name.now }
 {
     tag.attr(name)
 }
@@ -30,21 +31,22 @@ pub struct Attributes<'a> {
 }
 
 impl<'a> Model for Attributes<'a> {
-    ghost use Rattle.rx_rdfa.specs.Tree.{Tag};
+    ghost use Rattle.rx_rdfa.specs.Tree.{ElementTag};
     ghost use Rattle.rx_names.specs.Marks.{AreMarked};
-    ghost use Rattle.rx_names.specs.Tags.{tag_of};
+    ghost use Rattle.rx_rdfa.specs.Pages.{token_tag};
+    ghost use Rattle.rx_tags.specs.Seen.{tag_seen};
 
-    ghost Value = { Tag };
+    ghost Value = { ElementTag };
 
-    ghost view = { λ those. tag_of those.tag };
+    ghost view = { λ those. token_tag (tag_seen those.tag) };
 
-    ghost invariant = { λ those. AreMarked those.marks those.namespaces (tag_of those.tag).attributes };
+    ghost invariant = { λ those. AreMarked those.marks those.namespaces (token_tag (tag_seen those.tag)).attributes };
 }
 
 impl<'a> Attributes<'a> {
     /// The attributes of the tag.
     pub fn of(tag: &Tag<'a>) -> Attributes<'a>
-        ensures { result ≡ tag_of tag.now }
+        ensures { result ≡ token_tag (tag_seen tag.now) }
     {
         let mut marks = 0;
         let mut namespaces = false;
@@ -69,7 +71,7 @@ impl<'a> Attributes<'a> {
 
     /// Whether the tag may declare names. Of nearly all tags that declare none that is told by the marks alone.
     pub(crate) fn may_declare(&self) -> bool
-        ensures { result ≡ false → rows_of self.now ≡ [] }
+        ensures { result ≡ false → declared_rows self.now ≡ [] }
     {
         let prefix = self.may_have("prefix");
         let vocab = self.may_have("vocab");
@@ -112,7 +114,7 @@ impl<'a> Attributes<'a> {
 
     /// The tag itself.
     pub(crate) fn tag(&self) -> &Tag<'a>
-        ensures { tag_of result.now ≡ self.now }
+        ensures { token_tag (tag_seen result.now) ≡ self.now }
     {
         &self.tag
     }
@@ -152,7 +154,7 @@ fn is_namespace(name: &str) -> bool
 /// The mark of a name: one of 64 bits, by its length and its first byte. The names that RDFa reads have few marks in common,
 /// and none with `class`, `id`, `name`, `style` and `title`, which most tags have.
 fn mark_of(name: &str) -> u64
-    ensures bytes { result ≡ mark_of name.now }
+    ensures bytes { result ≡ mark_bit name.now }
     ensures characters { result ≡ name_mark (chars name.now) }
 {
     1 << ((u64::from(first_byte(name)) + name.len() as u64 % 64 * 37) % 64)

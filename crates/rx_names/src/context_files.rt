@@ -2,7 +2,7 @@
 ghost use Rattle.std.specs.Prelude.{◌≡◌, ◌||◌, codes, bytes_eq, [], Some, None, option_map, option_and_then, if◌then◌else◌};
 ghost use Rattle.rx_terms.specs.Common.{chars, lowered, is_iri};
 ghost use Rattle.serde_json.specs.View.{view, members_view};
-ghost use Rattle.rx_names.specs.ContextFiles.{prefix_row, term_row, row_of, text_of, table_on, table_of, are_known, context_of_data, context_of};
+ghost use Rattle.rx_names.specs.ContextFiles.{prefix_row, term_row, mapping_row, data_text, table_on, mapping_table, are_known, context_of_data, context_of};
 ghost use Rattle.rx_names.specs.FileErrors.{FileGives};
 
 use crate::contexts::Context;
@@ -109,7 +109,7 @@ fn is_known(name: &str) -> bool
 
 /// The table that the value is, which is empty where there is none.
 fn table_of(alloc: Global, kind: MappingKind, value: Option<&Value>) -> Result<Table, ContextError>
-    ensures { FileGives result (table_of kind (option_map (λ value. view value.now) value.entry)) }
+    ensures { FileGives result (mapping_table kind (option_map (λ value. view value.now) value.entry)) }
 {
     let Some(value) = value else {
         return Ok(Table::new(alloc));
@@ -145,7 +145,7 @@ fn row_of(
     name: &str,
     value: &Value,
 ) -> Result<(Text, Iri), ContextError>
-    ensures { FileGives result (option_and_then (row_of kind (chars name.now)) (text_of (view value.now))) }
+    ensures { FileGives result (option_and_then (mapping_row kind (chars name.now)) (data_text (view value.now))) }
 {
     let Some(iri) = value.as_str() else {
         return Err(ContextError::BadContext);

@@ -1,6 +1,6 @@
 //! The context that a page starts from.
 ghost use Rattle.std.specs.Prelude.{◌≡◌, ◌<◌, length, true, IfOk, IfSome, Some, slice_get};
-ghost use Rattle.rx_rdfa.specs.Common.{chars, IsIri, has_scheme, lowered, seen_slice, value_at, term};
+ghost use Rattle.rx_rdfa.specs.Common.{chars, IsIri, has_scheme, lowered, seen_slice, table_value, term};
 ghost use Rattle.rx_rdfa.specs.Standard as the;
 ghost use Rattle.rx_names.specs.Tables.{rise};
 
@@ -93,7 +93,7 @@ impl Context {
 
     /// The IRI of the prefix, which is compared in lower case.
     pub(crate) fn prefix(&self, name: &str) -> Option<&str>
-        ensures value { seen_slice result ≡ value_at (lowered (chars name.now)) self.now.prefixes }
+        ensures value { seen_slice result ≡ table_value (lowered (chars name.now)) self.now.prefixes }
         ensures scheme { IfSome result (λ iri. has_scheme (chars iri.now) ≡ true) }
     {
         match &self.tables {

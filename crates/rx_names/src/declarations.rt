@@ -1,8 +1,9 @@
 //! What a start tag declares.
 ghost use Rattle.std.specs.Prelude.{◌≡◌, [], ◌∷◌, ◌++◌, OnOk, IfOk};
 ghost use Rattle.rx_rdfa.specs.Common.{flat_map, chars, lowered, tokens, seen_slice, counts, xmlns_of, of_prefix, pairs, unless_empty, attribute};
-ghost use Rattle.rx_names.specs.Tags.{tag_of};
-ghost use Rattle.rx_names.specs.Rows.{rows_of, mapping_rows, vocabulary_rows, language_rows, language_attribute};
+ghost use Rattle.rx_tags.specs.Seen.{tag_seen};
+ghost use Rattle.rx_rdfa.specs.Pages.{token_tag};
+ghost use Rattle.rx_names.specs.Rows.{declared_rows, mapping_rows, vocabulary_rows, language_rows, language_attribute};
 
 use crate::attributes::Attributes;
 use crate::rows::{Declaration, Rows};
@@ -18,7 +19,7 @@ pub(crate) fn push_declarations(
     rows: &mut Rows,
     attributes: &Attributes<'_>,
 ) -> Result<(), NoMemory>
-    ensures ok { OnOk result (rows.new ≡ rows.old ++ rows_of attributes.now) }
+    ensures ok { OnOk result (rows.new ≡ rows.old ++ declared_rows attributes.now) }
 {
     push_namespaces(alloc, rows, attributes.tag())?;
     push_prefixes(alloc, rows, attributes.value("prefix"))?;
@@ -38,7 +39,7 @@ fn language_attribute<'a>(attributes: &Attributes<'a>) -> Option<&'a str>
 
 /// The attributes `xmlns:NAME`.
 fn push_namespaces(alloc: Global, rows: &mut Rows, tag: &Tag<'_>) -> Result<(), NoMemory>
-    ensures ok { OnOk result (rows.new ≡ rows.old ++ mapping_rows (flat_map xmlns_of (tag_of tag.now).attributes)) }
+    ensures ok { OnOk result (rows.new ≡ rows.old ++ mapping_rows (flat_map xmlns_of (token_tag (tag_seen tag.now)).attributes)) }
 {
     for i in 0..tag.count() {
         let (name, value) = tag.attr_at(i);

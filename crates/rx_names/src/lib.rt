@@ -3,7 +3,7 @@
 //! [`Names`] begins with a [`Context`], takes the start tag of each element that is opened, and drops its declarations when the
 //! element ends. Its [`NamesView`] answers what RDFa Core 1.1, sections 7.4 and 7.5, says of the line of tags that are open, and
 //! lends slices. Each declaration is kept once, whatever stands below it. A contract sees what is kept, and for every line of
-//! tags that it stands for (`Stands`) what is answered.
+//! tags that it stands for (`NamesStand`) what is answered.
 #![tactic(auto)]
 
 mod attributes;

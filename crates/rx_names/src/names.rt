@@ -1,9 +1,10 @@
 //! The names in force along the open elements.
 ghost use Rattle.std.specs.Prelude.{◌≡◌, ◌<◌, ◌≤◌, [], ◌∷◌, ◌++◌, List, length, true, OnOk, OnErr, IfOk, IfSome};
 ghost use Rattle.rx_rdfa.specs.Common.{chars, has_scheme, lowered, seen_slice, prefix, vocab, language, term};
-ghost use Rattle.rx_rdfa.specs.Tree.{Tag as StartTag};
-ghost use Rattle.rx_names.specs.Tags.{tag_of};
-ghost use Rattle.rx_names.specs.Lines.{no_tags, pushed, popped, NamesStand, prefix_of, vocabulary_of, language_of, declared_along};
+ghost use Rattle.rx_rdfa.specs.Tree.{ElementTag as StartTag};
+ghost use Rattle.rx_tags.specs.Seen.{tag_seen};
+ghost use Rattle.rx_rdfa.specs.Pages.{token_tag};
+ghost use Rattle.rx_names.specs.Lines.{no_tags, tag_pushed, popped, NamesStand, kept_prefix, vocabulary_of, kept_language, declared_along};
 ghost use Rattle.rx_names.specs.Views.{names_seen, Along};
 
 use crate::attributes::Attributes;
@@ -27,9 +28,9 @@ pub struct Names {
 }
 
 impl Model for Names {
-    ghost use Rattle.rx_names.specs.Lines.{Kept};
+    ghost use Rattle.rx_names.specs.Lines.{KeptNames};
 
-    ghost Value = { Kept };
+    ghost Value = { KeptNames };
 
     ghost view = { λ names. record { context = names.context; rows = names.rows; marks = names.marks.items } };
 }
@@ -50,8 +51,8 @@ impl Names {
 
     /// Adds the declarations of the start tag of an element inside the others.
     pub fn push(&mut self, tag: &Tag<'_>) -> Result<(), NoMemory>
-        ensures ok { OnOk result (self.new ≡ pushed self.old (tag_of tag.now)) }
-        ensures line { OnOk result ((line : List StartTag) → NamesStand self.old line → NamesStand self.new (tag_of tag.now ∷ line)) }
+        ensures ok { OnOk result (self.new ≡ tag_pushed self.old (token_tag (tag_seen tag.now))) }
+        ensures line { OnOk result ((line : List StartTag) → NamesStand self.old line → NamesStand self.new (token_tag (tag_seen tag.now) ∷ line)) }
         ensures err { OnErr result (self.new ≡ self.old) }
     {
         self.push_of(&Attributes::of(tag))
@@ -60,7 +61,7 @@ impl Names {
     /// The same by the tag's attributes. Most tags declare nothing, and then nothing is gone over.
     #[inline]
     pub fn push_of(&mut self, attributes: &Attributes<'_>) -> Result<(), NoMemory>
-        ensures ok { OnOk result (self.new ≡ pushed self.old attributes.now) }
+        ensures ok { OnOk result (self.new ≡ tag_pushed self.old attributes.now) }
         ensures line { OnOk result ((line : List StartTag) → NamesStand self.old line → NamesStand self.new (attributes.now ∷ line)) }
         ensures err { OnErr result (self.new ≡ self.old) }
     {
@@ -83,7 +84,7 @@ impl Names {
     /// The same of a tag that declares something, or may do so.
     #[inline(never)]
     fn push_declared(&mut self, attributes: &Attributes<'_>) -> Result<(), NoMemory>
-        ensures ok { OnOk result (self.new ≡ pushed self.old attributes.now) }
+        ensures ok { OnOk result (self.new ≡ tag_pushed self.old attributes.now) }
         ensures line { OnOk result ((line : List StartTag) → NamesStand self.old line → NamesStand self.new (attributes.now ∷ line)) }
         ensures err { OnErr result (self.new ≡ self.old) }
     {
@@ -123,7 +124,7 @@ impl Names {
     }
 
     fn prefix(&self, name: &str) -> Option<&str>
-        ensures value { seen_slice result ≡ prefix_of self.now (lowered (chars name.now)) }
+        ensures value { seen_slice result ≡ kept_prefix self.now (lowered (chars name.now)) }
         ensures scheme { IfSome result (λ iri. has_scheme (chars iri.now) ≡ true) }
     {
         match self.rows.prefix(name) {
@@ -139,7 +140,7 @@ impl Names {
     }
 
     fn lang(&self) -> Option<&str>
-        ensures value { seen_slice result ≡ language_of self.now }
+        ensures value { seen_slice result ≡ kept_language self.now }
     {
         self.rows.language()
     }
@@ -162,7 +163,7 @@ impl<'a> NamesView<'a> {
     /// The IRI of the prefix, which is compared in lower case: what the nearest element that declares it says last, else what
     /// the context says (RDFa Core 1.1, section 7.5, step 3).
     pub fn prefix(&self, name: &str) -> Option<&'a str>
-        ensures kept { seen_slice result ≡ prefix_of (names_seen self.now) (lowered (chars name.now)) }
+        ensures kept { seen_slice result ≡ kept_prefix (names_seen self.now) (lowered (chars name.now)) }
         ensures line { Along self.now (λ context line. seen_slice result ≡ prefix context line (lowered (chars name.now))) }
         ensures scheme { IfSome result (λ iri. has_scheme (chars iri.now) ≡ true) }
     {
@@ -183,7 +184,7 @@ impl<'a> NamesView<'a> {
     /// The language: that of the nearest element with `xml:lang` or `lang`, none where that is no language tag (RDFa Core
     /// 1.1, section 7.5, step 4).
     pub fn lang(&self) -> Option<&'a str>
-        ensures kept { seen_slice result ≡ language_of (names_seen self.now) }
+        ensures kept { seen_slice result ≡ kept_language (names_seen self.now) }
         ensures line { Along self.now (λ context line. seen_slice result ≡ language line) }
     {
         let names = self.names;

@@ -1,7 +1,7 @@
 //! Numbers by which declarations are found.
 ghost use Rattle.std.specs.Prelude.{◌≡◌};
 ghost use Rattle.rx_terms.specs.Common.{chars, lowered};
-ghost use Rattle.rx_names.specs.Numbers.{number_of};
+ghost use Rattle.rx_terms.specs.Iri.{number_of};
 
 use std::hash::{DefaultHasher, Hasher};
 

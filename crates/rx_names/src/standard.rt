@@ -1,8 +1,8 @@
 //! The tables of the context that holds where no other is named. They stand in the program, and take no memory.
 ghost use Rattle.std.specs.Prelude.{◌≡◌, ◌<◌, length, true, IfSome, Some, slice_get};
-ghost use Rattle.rx_rdfa.specs.Common.{chars, IsIri, has_scheme, lowered, seen_slice, value_at, term};
+ghost use Rattle.rx_rdfa.specs.Common.{chars, IsIri, has_scheme, lowered, seen_slice, table_value, term};
 ghost use Rattle.rx_names.specs.Contexts.{standard_tables};
-ghost use Rattle.rx_names.specs.Given.{given, are_given};
+ghost use Rattle.rx_names.specs.Given.{given_table, are_given};
 ghost use Rattle.rx_names.specs.Tables.{rise};
 
 use crate::tables::compare_lowered;
@@ -59,7 +59,7 @@ pub(crate) fn prefix_at(i: usize) -> (&'static str, &'static str)
 
 /// The IRI of the prefix, which is compared in lower case.
 pub(crate) fn prefix(name: &str) -> Option<&'static str>
-    ensures value { seen_slice result ≡ value_at (lowered (chars name.now)) standard_tables.prefixes }
+    ensures value { seen_slice result ≡ table_value (lowered (chars name.now)) standard_tables.prefixes }
     ensures scheme { IfSome result (λ iri. has_scheme (chars iri.now) ≡ true) }
 {
     find_lowered(&PREFIXES, name)
@@ -75,9 +75,9 @@ pub(crate) fn term(name: &str) -> Option<&'static str>
 
 /// The row at a place, from 0.
 fn row_at<'a>(rows: &[(&'a str, &'a str)], i: usize) -> (&'a str, &'a str)
-    requires given { are_given (given rows.now) ≡ true }
+    requires given { are_given (given_table rows.now) ≡ true }
     requires place { i < length rows.now }
-    ensures row { slice_get (given rows.now) i ≡ Some (chars result.0.now, chars result.1.now) }
+    ensures row { slice_get (given_table rows.now) i ≡ Some (chars result.0.now, chars result.1.now) }
     ensures iri { IsIri (chars result.1.now) }
 {
     rows[i]
@@ -85,8 +85,8 @@ fn row_at<'a>(rows: &[(&'a str, &'a str)], i: usize) -> (&'a str, &'a str)
 
 /// The IRI of the name in lower case.
 fn find_lowered<'a>(rows: &[(&'a str, &'a str)], name: &str) -> Option<&'a str>
-    requires { are_given (given rows.now) ≡ true }
-    ensures value { seen_slice result ≡ value_at (lowered (chars name.now)) (given rows.now) }
+    requires { are_given (given_table rows.now) ≡ true }
+    ensures value { seen_slice result ≡ table_value (lowered (chars name.now)) (given_table rows.now) }
     ensures scheme { IfSome result (λ iri. has_scheme (chars iri.now) ≡ true) }
 {
     match rows.binary_search_by(|row| compare_lowered(row.0, name)) {

@@ -1,7 +1,7 @@
 //! Tables from names to IRIs.
 ghost use Rattle.std.specs.Prelude.{◌≡◌, ◌<◌, [], length, true, OnOk, OnErr, IfOk, IfSome, MatchOption, Some, slice_get, is_some, unwrap_or};
-ghost use Rattle.rx_rdfa.specs.Common.{slice_cmp, nat_cmp, chars, IsIri, has_scheme, Chars, lowered, seen_slice, value_at};
-ghost use Rattle.rx_names.specs.Tables.{byte_order, rise, put, folded, IsThere, IsGap};
+ghost use Rattle.rx_rdfa.specs.Common.{slice_cmp, nat_cmp, chars, IsIri, has_scheme, Chars, lowered, seen_slice, table_value};
+ghost use Rattle.rx_names.specs.Tables.{byte_order, rise, row_put, folded, IsThere, IsGap};
 
 use rx_terms::{Iri, NoMemory, Text};
 use rx_words::lower;
@@ -62,8 +62,8 @@ impl Table {
 
     /// Puts a row in its place, and answers whether that was done: where the name stands there already, nothing changes.
     pub(crate) fn insert(&mut self, name: Text, iri: Iri) -> Result<bool, NoMemory>
-        ensures added { IfOk result (λ added. added ≡ is_some (put (name, iri) self.old)) }
-        ensures ok { OnOk result (self.new ≡ unwrap_or (put (name, iri) self.old) self.old) }
+        ensures added { IfOk result (λ added. added ≡ is_some (row_put (name, iri) self.old)) }
+        ensures ok { OnOk result (self.new ≡ unwrap_or (row_put (name, iri) self.old) self.old) }
         ensures err { OnErr result (self.new ≡ self.old) }
     {
         let Some(gap) = self.gap(name.as_str()) else {
@@ -111,7 +111,7 @@ impl Table {
 
     /// The IRI of the name.
     pub(crate) fn find(&self, name: &str) -> Option<&str>
-        ensures value { seen_slice result ≡ value_at (chars name.now) self.now }
+        ensures value { seen_slice result ≡ table_value (chars name.now) self.now }
         ensures scheme { IfSome result (λ iri. has_scheme (chars iri.now) ≡ true) }
     {
         match self
@@ -125,7 +125,7 @@ impl Table {
 
     /// The IRI of the name in lower case.
     pub(crate) fn find_lowered(&self, name: &str) -> Option<&str>
-        ensures value { seen_slice result ≡ value_at (lowered (chars name.now)) self.now }
+        ensures value { seen_slice result ≡ table_value (lowered (chars name.now)) self.now }
         ensures scheme { IfSome result (λ iri. has_scheme (chars iri.now) ≡ true) }
     {
         match self

@@ -1,5 +1,5 @@
 -- What is due and what is read are told in turn.
-use Rattle.rx_nest.proofs.Common.{◌≡◌, ◌∙◌, ℕ, zero, suc, Bool, true, false, List, [], ◌++◌, refl, sym, ap, subst, append_assoc, append-nil, Option, Some, None, Err, arith, nat_tests, if◌then◌else◌, ◌-◌, nat_lt, take, drop, Syntax, Item, StartTag, Fault, Limits, no_bytes, no_page, Scanning, Stop, take-append-drop, Scanner, Lines, Sign, sees, nothing_seen, flags_of, own_signs, FallsBy, ReadGives, StaysAtFault, FaultGives, OpenBefore, Nested, At, NestStands, Stops, Unshown, LendsStart, begins_own, IsATag, a_tag, read_before, read_now, TokenOf, DidOf, Done, DidLends, did_signs, did_more, did_skipped, heard_signs, hears_more, hears_skipped, Lends, Heeds, last_tag, owed_signs, owes_begin, left}
+use Rattle.rx_nest.proofs.Common.{◌≡◌, ◌∙◌, ℕ, zero, suc, Bool, true, false, List, [], ◌++◌, refl, sym, ap, subst, append_assoc, append-nil, Option, Some, None, Err, arith, nat_tests, if◌then◌else◌, ◌-◌, nat_lt, take, drop, Syntax, Item, StartTag, Fault, Limits, no_bytes, no_page, Scanning, Stop, take-append-drop, Scanner, Lines, Sign, sees, nothing_seen, flags_of, own_signs, FallsBy, NestReadGives, StaysAtFault, FaultGives, OpenBefore, Nested, At, NestStands, StopsInPiece, Unshown, LendsStart, begins_own, IsATag, a_tag, read_before, read_now, TokenOf, DidOf, Done, DidLends, did_signs, did_more, did_skipped, heard_signs, hears_more, hears_skipped, Lends, Heeds, last_tag, owed_signs, owes_begin, left}
 use Rattle.rx_scan.specs.Steps as scan
 use Rattle.rx_nest.specs.declared.lines.TagAction.{TagAction}
 use Rattle.rx_nest.specs.declared.lines.TagAction.TheVariants as own
@@ -9,7 +9,7 @@ use Rattle.rx_nest.specs.declared.tree_tokens.TreeToken.TheVariants as tree_toke
 use Rattle.rx_nest.specs.declared.tree_tokens.EventKind.{EventKind}
 use Rattle.rx_nest.specs.declared.tree_tokens.EventKind.TheVariants as did
 use Rattle.rx_scan.proofs.MarkLemmas.{none_marked}
-use Rattle.rx_nest.specs.TreeTokens.{first_own, next_own, next_owed, first_of, paid}
+use Rattle.rx_nest.specs.TreeTokens.{first_own, next_own, next_owed, first_event, paid}
 use Rattle.rx_grammar.specs.declared.stops.Stop.TheVariants as stop
 use Rattle.rx_nest.proofs.TextSteps.{sees_append}
 use Rattle.rx_nest.proofs.Sizes.{faults_so, still_so}
@@ -40,7 +40,7 @@ one_fewer k = omega arith
 one_next : (k : ℕ) (o : Option TagAction) → next_owed (record { ends = suc k; own = o }) ≡ Some (did.Finish, record { ends = k; own = o })
 one_next k o = ap (λ b. if b then Some (did.Finish, record { ends = suc k - 1; own = o }) else next_own o) (some_left k) ∙ ap (λ n. Some (did.Finish, record { ends = n; own = o })) (one_fewer k)
 
-one_first : (k : ℕ) (o : TagAction) (drops : Bool) → first_of (tree_token.Tag (record { ends = suc k; own = o; drops = drops })) ≡ (did.Finish, record { ends = k; own = Some o })
+one_first : (k : ℕ) (o : TagAction) (drops : Bool) → first_event (tree_token.Tag (record { ends = suc k; own = o; drops = drops })) ≡ (did.Finish, record { ends = k; own = Some o })
 one_first k o drops = ap (λ b. if b then (did.Finish, record { ends = suc k - 1; own = Some o }) else first_own o) (some_left k) ∙ ap (λ n. (did.Finish, record { ends = n; own = Some o })) (one_fewer k)
 
 -- what is done first, and what is owed then
@@ -101,14 +101,14 @@ none_due owed t h = by owed.ends owed.own h
 
 -- what was heard
 pub record First (h : TreeToken) (v : Scanner) : Type 0 where
-  pub signs_are : heard_signs h v ≡ did_signs (first_of h).0 v ++ owed_signs (first_of h).1 (last_tag v)
-  pub lends : DidLends (first_of h).0 v
-  pub begin_left : owes_begin (first_of h).1.own ≡ true → LendsStart v
-  pub more : did_more (first_of h).0 ≡ hears_more h
-  pub skipped : hears_skipped h ≡ true → did_skipped (first_of h).0 ≡ true
+  pub signs_are : heard_signs h v ≡ did_signs (first_event h).0 v ++ owed_signs (first_event h).1 (last_tag v)
+  pub lends : DidLends (first_event h).0 v
+  pub begin_left : owes_begin (first_event h).1.own ≡ true → LendsStart v
+  pub more : did_more (first_event h).0 ≡ hears_more h
+  pub skipped : hears_skipped h ≡ true → did_skipped (first_event h).0 ≡ true
   -- behind what is skipped nothing is due
-  pub passed : did_skipped (first_of h).0 ≡ true → (hears_more h ≡ false) × (left (first_of h).1 ≡ 0)
-  pub is_read : (s : Scanning) (bytes : List ℕ) (items : List Item) → TokenOf h v s bytes items → DidOf (first_of h).0 v s bytes items
+  pub passed : did_skipped (first_event h).0 ≡ true → (hears_more h ≡ false) × (left (first_event h).1 ≡ 0)
+  pub is_read : (s : Scanning) (bytes : List ℕ) (items : List Item) → TokenOf h v s bytes items → DidOf (first_event h).0 v s bytes items
 
 pub first_turn : (h : TreeToken) (v : Scanner) → Lends h v → First h v
 first_turn tree_token.More v l = record { signs_are = refl; lends = tt; begin_left = λ b. absurd (cc); more = refl; skipped = λ b. b; passed = λ b. absurd (cc); is_read = λ s bytes items h. h }
@@ -161,8 +161,8 @@ module _ (syntax : Syntax) (limits : Limits) (old : Nested) (bytes : List ℕ) (
       })
 
   -- what is read is told
-  pub read_done : (n : ℕ) (h : TreeToken) (new : Nested) → scan.TakesSome piece n (hears_more h) → next_owed old.owed ≡ None → Heeds syntax limits bytes st.told piece n h old.line new.scan new.line → new.owed ≡ (first_of h).1 → new.failed ≡ None → new.out_of_memory ≡ false
-      → Done syntax limits bytes signs piece n (first_of h).0 new
+  pub read_done : (n : ℕ) (h : TreeToken) (new : Nested) → scan.TakesSome piece n (hears_more h) → next_owed old.owed ≡ None → Heeds syntax limits bytes st.told piece n h old.line new.scan new.line → new.owed ≡ (first_event h).1 → new.failed ≡ None → new.out_of_memory ≡ false
+      → Done syntax limits bytes signs piece n (first_event h).0 new
   read_done n h new takes none heeds owed failed out_of_memory =
       let f = first_turn h new.scan heeds.lends in
       let paid_up : signs ++ owed_signs old.owed (last_tag old.scan) ≡ signs = ap (λ x. signs ++ x) (none_due old.owed (last_tag old.scan) none) ∙ append-nil signs in
@@ -176,7 +176,7 @@ module _ (syntax : Syntax) (limits : Limits) (old : Nested) (bytes : List ℕ) (
               ∙ (ap (λ x. sees x heeds.events) (st.sight ∙ ap (λ x. record { flags = flags_of old.line.levels; signs = x }) paid_up)
               ∙ (heeds.shows signs
               ∙ ap (λ x. record { flags = flags_of new.line.levels; signs = x })
-              (ap (λ x. signs ++ x) f.signs_are ∙ (sym (append_assoc signs (did_signs (first_of h).0 new.scan) (owed_signs (first_of h).1 (last_tag new.scan))) ∙ ap (λ (x : PendingEvents). (signs ++ did_signs (first_of h).0 new.scan) ++ owed_signs x (last_tag new.scan)) (sym owed)))));
+              (ap (λ x. signs ++ x) f.signs_are ∙ (sym (append_assoc signs (did_signs (first_event h).0 new.scan) (owed_signs (first_event h).1 (last_tag new.scan))) ∙ ap (λ (x : PendingEvents). (signs ++ did_signs (first_event h).0 new.scan) ++ owed_signs x (last_tag new.scan)) (sym owed)))));
           lends = λ b. f.begin_left (ap (λ (x : PendingEvents). owes_begin x.own) (sym owed) ∙ b);
           unfailed = failed;
           unspent = out_of_memory;
@@ -188,14 +188,14 @@ module _ (syntax : Syntax) (limits : Limits) (old : Nested) (bytes : List ℕ) (
       }
 
   -- before a fault no more is shown
-  pub unshown : (fault : Fault) → next_owed old.owed ≡ None → Stops syntax limits bytes st.told piece fault → Unshown syntax limits bytes signs piece
+  pub unshown : (fault : Fault) → next_owed old.owed ≡ None → StopsInPiece syntax limits bytes st.told piece fault → Unshown syntax limits bytes signs piece
   unshown fault none stops k p h =
       let same = still_so syntax limits bytes piece st.at.now st.told fault st.at.read stops (take k piece) (drop k piece) p (sym (take-append-drop k piece)) h in
       let paid_up : signs ++ owed_signs old.owed (last_tag old.scan) ≡ signs = ap (λ x. signs ++ x) (none_due old.owed (last_tag old.scan) none) ∙ append-nil signs in
       ap (λ es. (sees nothing_seen es).signs) same ∙ (ap (λ x. x.signs) st.sight ∙ paid_up)
 
   -- after a fault, or without memory, nothing else is answered
-  pub read_stopped : (why : Stop) (new : Nested) → next_owed old.owed ≡ None → ReadGives syntax limits bytes st.told piece old.line (Err why) new.scan new.line → StaysAtFault {A = ℕ × TreeToken} (Err why) old.line new.line
+  pub read_stopped : (why : Stop) (new : Nested) → next_owed old.owed ≡ None → NestReadGives syntax limits bytes st.told piece old.line (Err why) new.scan new.line → StaysAtFault {A = ℕ × TreeToken} (Err why) old.line new.line
       → FallsBy why new.failed new.out_of_memory → FaultGives syntax limits bytes signs piece why new
   read_stopped (stop.Fault fault) new none stops same falls = (
     faults_so syntax limits bytes piece _ st.told fault st.at.read stops,

@@ -1,5 +1,5 @@
 -- Where a page's fault lies.
-use Rattle.rx_nest.proofs.Common.{◌≡◌, ◌∙◌, ℕ, ◌+◌, ◌<◌, List, ◌++◌, length, refl, sym, ap, Some, Result, Ok, Err, arith, take, drop, Syntax, Page, FaultAt, Tree, Fault, Limits, Progress, page_read, page_on, nothing_read, no_page, spot_of, fault_stays, page_is_read, page_append, one_tree, take-append-drop, length-take-le, take-append-le, Sign, Sight, sees, nothing_seen, signs_of, Way, IsRefusal, ReaderRefuses, BeginsNone, BeginsRefused, ⊎_elim}
+use Rattle.rx_nest.proofs.Common.{◌≡◌, ◌∙◌, ℕ, ◌+◌, ◌<◌, List, ◌++◌, length, refl, sym, ap, Some, Result, Ok, Err, arith, take, drop, Syntax, Page, FaultAt, Tree, Fault, Limits, Progress, page_read, page_on, no_progress, no_page, spot_of, fault_stays, page_is_read, page_append, one_tree, take-append-drop, length-take-le, take-append-le, Sign, Sight, sees, nothing_seen, signs_of, Way, IsRefusal, ReaderRefuses, BeginsNone, BeginsRefused, ⊎_elim}
 use Rattle.rx_nest.proofs.Sizes.{within_so}
 use Rattle.rx_nest.proofs.TagPlaces.{shows_more}
 use Rattle.rx_nest.proofs.TreeSeen.{end_so, whole}
@@ -19,7 +19,7 @@ module _ (syntax : Syntax) (limits : Limits) where
       by (Ok p) k = record { now = p; is = k }
       by (Err fault) k =
           absurd (let w : Err fault ≡ Ok q =
-          sym (fault_stays syntax limits fault rest) ∙ (ap (λ x. page_on syntax limits x rest) (sym k) ∙ (sym (page_append syntax limits (spot_of syntax no_page.nest) (Ok nothing_read) front rest) ∙ e)) in cc)
+          sym (fault_stays syntax limits fault rest) ∙ (ap (λ x. page_on syntax limits x rest) (sym k) ∙ (sym (page_append syntax limits (spot_of syntax no_page.nest) (Ok no_progress) front rest) ∙ e)) in cc)
 
   -- a page is read to its end, and shows its tree
   pub record PageShows (bytes : List ℕ) (tree : Tree) : Type 0 where

@@ -1,8 +1,8 @@
 -- Where a fault lies that a piece of a page brings.
-use Rattle.rx_nest.proofs.Common.{◌≡◌, ◌∙◌, ℕ, ◌+◌, ◌≤◌, List, [], ◌++◌, length, sym, ap, subst, None, Ok, Err, arith, take, drop, append-nil, nat_tests, nat_le, by_test, Fault, Progress, page_read, Stop, take-append-drop, take-append-le, faults_follow_fronts, Nested, Sign, Sight, sees, nothing_seen, PlaceGives, PlaceLaw, of_form, of_meaning, Placed, Way, IsRefusal}
+use Rattle.rx_nest.proofs.Common.{◌≡◌, ◌∙◌, ℕ, ◌+◌, ◌≤◌, List, [], ◌++◌, length, sym, ap, subst, None, Ok, Err, arith, take, drop, append-nil, nat_tests, nat_le, by_test, Fault, Progress, page_read, Stop, take-append-drop, take-append-le, faults_follow_fronts, Nested, Sign, Sight, sees, nothing_seen, PlaceGives, PlaceLaw, of_form, of_meaning, LiesInPiece, Way, IsRefusal}
 use Rattle.rx_grammar.specs.declared.stops.Stop.TheVariants as stop
 use Rattle.rx_nest.specs.Faults.{Refuses, Stops, StopGives, for_form, for_meaning}
-use Rattle.rx_nest.specs.Readings.{Goes as ReadingGoes, OwesNone}
+use Rattle.rx_nest.specs.Readings.{ListenerStands as ReadingGoes, OwesNone}
 use Rattle.rx_nest.proofs.FaultPlacing.{Shown, shown, refused_of, through, begins_none}
 use Rattle.rx_nest.proofs.Firsts.{page_behind, some_none}
 use Rattle.rx_nest.proofs.Meanings.{read_as_meant}
@@ -29,7 +29,7 @@ module _ (way : Way) (law : IsRefusal way.refused) where
 
 -- where a fault lies that a piece brings
 pub placed : {L : Type 0} (way : Way) (knows : L → List Sign → Type 0) (law : IsRefusal way.refused) (bytes piece : List ℕ) (nest : Nested) (listener : L) (fault : Fault)
-    → (g : ReadingGoes way knows nest listener bytes) → way.refused g.signs ≡ None → OwesNone nest → Stops way (bytes ++ piece) fault → Placed way bytes piece fault
+    → (g : ReadingGoes way knows nest listener bytes) → way.refused g.signs ≡ None → OwesNone nest → Stops way (bytes ++ piece) fault → LiesInPiece way bytes piece fault
 placed way knows law bytes piece nest listener fault g accepted paid st =
     let now : Progress = record { now = g.shown.at.now; told = g.shown.told } in
     let seen : (sees nothing_seen g.shown.told).signs ≡ g.signs = ap (λ (x : Sight). x.signs) g.shown.sight ∙ (ap (λ x. g.signs ++ x) paid ∙ append-nil g.signs) in

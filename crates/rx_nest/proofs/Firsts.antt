@@ -1,5 +1,5 @@
 -- Which fault comes first.
-use Rattle.rx_nest.proofs.Common.{append_cancel_left, Syntax, FaultAt, Fault, Unended, Limits, Progress, page_read, page_on, nothing_read, spot_of, fault_in, fault_stays, fault_is_read, page_append, read_size, two_fronts, take-append_seam, ◌≡◌, ◌∙◌, ℕ, ◌<◌, ◌≤◌, List, [], ◌++◌, length, sym, ap, subst, Option, Some, None, Ok, Err, arith, length-append, append_assoc, append-nil, ⊎_elim, take, Sign, sees, nothing_seen, Way, IsRefusal, ReaderRefuses, inl, inr, ◌⊎◌}
+use Rattle.rx_nest.proofs.Common.{append_cancel_left, Syntax, FaultAt, Fault, Unended, Limits, Progress, page_read, page_on, no_progress, spot_of, fault_in, fault_stays, fault_is_read, page_append, read_size, two_fronts, take-append_seam, ◌≡◌, ◌∙◌, ℕ, ◌<◌, ◌≤◌, List, [], ◌++◌, length, sym, ap, subst, Option, Some, None, Ok, Err, arith, length-append, append_assoc, append-nil, ⊎_elim, take, Sign, sees, nothing_seen, Way, IsRefusal, ReaderRefuses, inl, inr, ◌⊎◌}
 use Rattle.rx_reader.proofs.Fronts.{Longer}
 use Rattle.rx_nest.specs.Nests as nests
 use Rattle.rx_nest.proofs.Sizes.{within_so}
@@ -43,7 +43,7 @@ module _ (way : Way) (law : IsRefusal way.refused) where
 
 module _ (way : Way) (law : IsRefusal way.refused) (bytes piece : List ℕ) (signs : List Sign) (fault : Fault) where
   -- no start tag is refused that stands before the page's fault
-  pub no_meaning : {p : Progress} → page_read way.syntax way.limits bytes ≡ Ok p → nests.Faults way.syntax way.limits bytes piece fault → nests.Unshown way.syntax way.limits bytes signs piece → way.refused signs ≡ None
+  pub no_meaning : {p : Progress} → page_read way.syntax way.limits bytes ≡ Ok p → nests.NestFaults way.syntax way.limits bytes piece fault → nests.Unshown way.syntax way.limits bytes signs piece → way.refused signs ≡ None
       → (rest : List ℕ) (other : Fault) → ReaderRefuses way ((bytes ++ piece) ++ rest) other → ⊥
   no_meaning {p} r f u a rest other m = ⊎_elim reaches falls_short (two_fronts bytes m.front (piece ++ rest) m.rest (sym (append_assoc bytes piece rest) ∙ m.are))
     where
@@ -66,7 +66,7 @@ module _ (way : Way) (law : IsRefusal way.refused) (bytes piece : List ℕ) (sig
           past q =
               let w : Err fault ≡ Ok m.now =
               sym (fault_stays way.syntax way.limits fault q.z) ∙ (ap (λ x. page_on way.syntax way.limits x q.z) (sym (fault_read way.syntax way.limits (bytes ++ piece) fault (subst (λ b. FaultAt way.syntax way.limits b fault) (append-nil (bytes ++ piece)) (f.stays [])) f.within))
-              ∙ (sym (page_append way.syntax way.limits (spot_of way.syntax p.now.nest) (Ok nothing_read) (bytes ++ piece) q.z)
+              ∙ (sym (page_append way.syntax way.limits (spot_of way.syntax p.now.nest) (Ok no_progress) (bytes ++ piece) q.z)
               ∙ (ap (λ x. page_read way.syntax way.limits x) (append_assoc bytes piece q.z ∙ ap (λ x. bytes ++ x) (sym q.is)) ∙ read_there b.z b.is))) in
               cc
 

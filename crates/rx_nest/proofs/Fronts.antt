@@ -1,5 +1,5 @@
 -- What a page's bytes show at any time is the front of one element.
-use Rattle.rx_nest.proofs.Common.{◌≡◌, ◌≢◌, ◌∙◌, ℕ, zero, suc, ◌≤◌, ◌<◌, Bool, true, false, List, [], ◌∷◌, ◌++◌, refl, sym, ap, subst, length, append_assoc, append-nil, Some, Ok, arith, not, map, Chars, by_test, Syntax, hides, StartTag, start_of, Line, inside_of, Limits, begins, says, finishes, Progress, page_read, Sign, begun, said, finished, Flags, is_hidden, Sight, see, sees, nothing_seen, Nested, NestStands, owed_signs, last_tag}
+use Rattle.rx_nest.proofs.Common.{◌≡◌, ◌≢◌, ◌∙◌, ℕ, zero, suc, ◌≤◌, ◌<◌, Bool, true, false, List, [], ◌∷◌, ◌++◌, refl, sym, ap, subst, length, append_assoc, append-nil, Some, Ok, arith, not, map, Chars, by_test, Syntax, hides, StartTag, start_tag_of, Line, inside_of, Limits, begins, says, finishes, Progress, page_read, Sign, begun, said, finished, Flags, is_hidden, Sight, see, sees, nothing_seen, Nested, NestStands, owed_signs, last_tag}
 use Rattle.rx_nest.specs.Fronts.{Front, unbegun, inside, over as ended, goes, goes_on, front_of, levels_of, IsFront}
 use Rattle.rx_nest.proofs.PageWalks.{has_begun, page_held}
 use Rattle.rx_nest.proofs.TextSteps.{seen_on}
@@ -149,8 +149,8 @@ page_shown syntax limits bytes q e =
     (λ item t. record {
       finish = λ u line events s. seen_on (Shown limits.depth true line) events finishes (finish limits.depth u line (sees nothing_seen events) s);
       begin = λ b line events some none l s.
-          seen_on (Shown limits.depth true (start_of item t ∷ line)) events (begins (start_of item t) (hides (inside_of syntax line) t))
-          (begin limits.depth (start_of item t) (hides (inside_of syntax line) t) b line (sees nothing_seen events) some none l s);
+          seen_on (Shown limits.depth true (start_tag_of item t ∷ line)) events (begins (start_tag_of item t) (hides (inside_of syntax line) t))
+          (begin limits.depth (start_tag_of item t) (hides (inside_of syntax line) t) b line (sees nothing_seen events) some none l s);
     })
     (record { along = refl; deep = refl; sized = omega arith; well = tt }) bytes q e).holds
 

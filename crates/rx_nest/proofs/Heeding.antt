@@ -1,5 +1,5 @@
 -- What the scanner tells, and the elements take, is what the page's bytes lead to.
-use Rattle.rx_nest.proofs.Common.{◌≡◌, ◌∙◌, ℕ, zero, suc, ◌+◌, Bool, true, false, List, [], ◌∷◌, ◌++◌, refl, sym, ap, subst, append_assoc, append-nil, Some, Result, Ok, Err, ◌&&◌, not, if◌then◌else◌, map, take, slice_get, Chars, Syntax, doctype, tag, Item, Line, inside_of, Phase, before, Fault, Kind, Limits, Event, Nesting, Step, content_at, doctype_step, step_by, nest_step, Spot, spot_of, Scanning, Scanned, scan_from, read_byte, is_none_left, may_lead, steps_on, with_events, telling, no_step, progress_of, page_on, page_read, nothing_read, IsKept, is_kept, page_scan, page_append, page_last, page_byte_fault, from_there, LastByte, last_byte, tag_seen, Setting, Scanner, HasMark, mark_bytes, ends_leading, setting_behind, Faults, Lines, says_text, is_none_open, Levels, hidden_under, Sign, said, is_hidden, sees, AreLevels, Follows, flags_of, phase_at, Stops, At, setting_of, heard_signs}
+use Rattle.rx_nest.proofs.Common.{◌≡◌, ◌∙◌, ℕ, zero, suc, ◌+◌, Bool, true, false, List, [], ◌∷◌, ◌++◌, refl, sym, ap, subst, append_assoc, append-nil, Some, Result, Ok, Err, ◌&&◌, not, if◌then◌else◌, map, take, slice_get, Chars, Syntax, doctype, tag, Item, Line, inside_of, Phase, before, Fault, Kind, Limits, Event, Nesting, Step, content_at, doctype_step, step_by, nest_step, Spot, spot_of, Scanning, Scanned, scan_from, read_byte, is_none_left, may_lead, steps_on, with_events, telling, no_step, progress_of, page_on, page_read, no_progress, IsKept, is_kept, page_scan, page_append, page_last, page_byte_fault, from_there, LastByte, last_byte, tag_seen, Setting, Scanner, HasMark, mark_bytes, ends_leading, setting_behind, Faults, Lines, says_text, is_none_open, Levels, hidden_under, Sign, said, is_hidden, sees, AreLevels, Follows, flags_of, phase_at, StopsInPiece, At, setting_of, heard_signs}
 use Rattle.rx_grammar.specs.Tokens as tokens
 use Rattle.rx_pages.proofs.Doctyped.{OneByte, one_byte, byte_leads}
 use Rattle.rx_pages.proofs.Leads.{scan_same}
@@ -28,7 +28,7 @@ module _ (syntax : Syntax) (limits : Limits) (bytes : List ℕ) (told : List Eve
 
   -- what the page's bytes lead to, by what they lead to from here
   page_from : (xs : List ℕ) → page_read syntax limits (bytes ++ xs) ≡ page_on syntax limits (from_there syntax limits spot s nest told) xs
-  page_from xs = page_append syntax limits spot (Ok nothing_read) bytes xs ∙ ap (λ x. page_on syntax limits x xs) at.read
+  page_from xs = page_append syntax limits spot (Ok no_progress) bytes xs ∙ ap (λ x. page_on syntax limits x xs) at.read
 
   -- the scanner's spot is the page's
   abbrev scan_by : Setting → List ℕ → Result Scanned Fault
@@ -46,7 +46,7 @@ module _ (syntax : Syntax) (limits : Limits) (bytes : List ℕ) (told : List Eve
       page_from front ∙ (p.read ∙ (ap (λ (z : Step). from_there syntax limits spot next z.next (told ++ z.events)) none ∙ ap (λ z. from_there syntax limits spot next nest z) (append-nil told)))
 
   -- a fault of the scanner
-  pub scan_fails : (piece : List ℕ) (fault : Fault) → Faults v.reading s piece fault → Stops syntax limits bytes told piece fault
+  pub scan_fails : (piece : List ℕ) (fault : Fault) → Faults v.reading s piece fault → StopsInPiece syntax limits bytes told piece fault
   scan_fails piece fault f =
       let b = byte_at f.n piece f.byte f.here in
       let quiet = quiet_front (take f.n piece) f.next (sym (scan_is (take f.n piece)) ∙ f.read) in
@@ -69,7 +69,7 @@ module _ (syntax : Syntax) (limits : Limits) (bytes : List ℕ) (told : List Eve
         };
         here =
             ap (λ x. page_read syntax limits x) (sym (append_assoc bytes (take f.n piece) (f.byte ∷ [])))
-            ∙ (page_append syntax limits spot (Ok nothing_read) (bytes ++ take f.n piece) (f.byte ∷ [])
+            ∙ (page_append syntax limits spot (Ok no_progress) (bytes ++ take f.n piece) (f.byte ∷ [])
             ∙ (ap (λ x. page_on syntax limits x (f.byte ∷ [])) quiet
             ∙ (page_byte_fault syntax limits spot f.next nest told f.byte fault.kind refl decides ∙ ap (λ x. Err x) (sym f.is))));
       }
@@ -213,7 +213,7 @@ module _ (syntax : Syntax) (limits : Limits) (bytes : List ℕ) (told : List Eve
         are = ap (λ z. s.held ++ z) b.are ∙ (sym (append_assoc s.held b.front (b.byte ∷ [])) ∙ (ap (λ z. z ++ b.byte ∷ []) m.are ∙ append_assoc mark_bytes more (b.byte ∷ [])));
       }
 
-      pub tag_stops : (kind : Kind) → nest_step syntax limits.depth nest item ≡ Err kind → (piece rest : List ℕ) → piece ≡ xs ++ rest → ((more : List ℕ) → HasMark s xs more → ⊥) → Stops syntax limits bytes told piece (record { kind = kind; token = t.token; at = t.at })
+      pub tag_stops : (kind : Kind) → nest_step syntax limits.depth nest item ≡ Err kind → (piece rest : List ℕ) → piece ≡ xs ++ rest → ((more : List ℕ) → HasMark s xs more → ⊥) → StopsInPiece syntax limits bytes told piece (record { kind = kind; token = t.token; at = t.at })
       tag_stops kind h piece rest e unmarked = record {
         front = b.front;
         byte = b.byte;

@@ -1,5 +1,5 @@
 -- The open elements that are kept are those of the grammar's front, and a fault leaves them as they were.
-use Rattle.rx_nest.proofs.Common.{◌≡◌, ◌∙◌, ℕ, List, [], ◌∷◌, ◌++◌, refl, sym, ap, subst, append_assoc, Option, None, Ok, Err, take, Entry, Syntax, values, next_of, Line, Phase, Begun, Fault, Limits, Event, Progress, scan_from, spot_of, page_byte_on, page_on, page_read, nothing_read, token_at, ReadsTo, page_append, reads_to, nothing_unfinished, unfinished_follows_front, ok_is, Stop, fault_in, Scanner, Lines, AreLevels, At, Stops, StaysAtFault, OpenBefore}
+use Rattle.rx_nest.proofs.Common.{◌≡◌, ◌∙◌, ℕ, List, [], ◌∷◌, ◌++◌, refl, sym, ap, subst, append_assoc, Option, None, Ok, Err, take, PlacedCharacter, Syntax, values, next_of, Line, Phase, Begun, Fault, Limits, Event, Progress, scan_from, spot_of, page_byte_on, page_on, page_read, no_progress, token_at, ReadsTo, page_append, reads_to, nothing_unfinished, unfinished_follows_front, ok_is, Stop, fault_in, Scanner, Lines, AreLevels, At, StopsInPiece, StaysAtFault, OpenBefore}
 use Rattle.rx_nest.proofs.TextSteps.{byte_goes}
 use Rattle.rx_grammar.specs.declared.stops.Stop.TheVariants as stop
 use Rattle.rx_nest.specs.OpenElements.{HasOpen, HasOpenUnderway, HasOpenOfFronts}
@@ -22,14 +22,14 @@ module _ (syntax : Syntax) (limits : Limits) (bytes : List ℕ) (told : List Eve
   levels_are = subst (λ (s : Syntax). AreLevels s line.levels at.now.nest.line) at.syntax_is at.follows.levels_are
 
   -- the elements are those of what is underway
-  pub has_open : (other : Line) (phase : Phase) (run : List Entry) (part : List ℕ) → ReadsTo syntax limits bytes other phase run part → HasOpen syntax line other
+  pub has_open : (other : Line) (phase : Phase) (run : List PlacedCharacter) (part : List ℕ) → ReadsTo syntax limits bytes other phase run part → HasOpen syntax line other
   has_open other phase run part r =
       let same = ok_is r.now (record { now = at.now; told = told }) (page_read syntax limits bytes) r.read at.read in
       let line_is : at.now.nest.line ≡ other = ap (λ (p : Progress). p.now.nest.line) (sym same) ∙ r.is_at.line_is in
       let are = subst (λ (l : Line). AreLevels syntax line.levels l) line_is levels_are in
       record { levels = are; depth = (same_of syntax line.levels other are).size }
 
-  pub open_before : (piece : List ℕ) (fault : Fault) → Stops syntax limits bytes told piece fault → OpenBefore syntax limits (bytes ++ piece) fault.token line
+  pub open_before : (piece : List ℕ) (fault : Fault) → StopsInPiece syntax limits bytes told piece fault → OpenBefore syntax limits (bytes ++ piece) fault.token line
   open_before piece fault st =
       let here : Progress = record { now = at.now; told = told } in
       let same = ok_is st.before.before here (page_read syntax limits bytes) st.before.read at.read in
@@ -47,7 +47,7 @@ module _ (syntax : Syntax) (limits : Limits) (bytes : List ℕ) (told : List Eve
       let all : (bytes ++ st.front) ++ (st.byte ∷ st.rest) ≡ bytes ++ piece = append_assoc bytes st.front (st.byte ∷ st.rest) ∙ ap (λ b. bytes ++ b) (sym st.are) in
       let by_byte : page_byte_on syntax limits (Ok stopped) st.byte ≡ Err fault =
       ap (λ r. page_on syntax limits r (st.byte ∷ [])) (sym st.read)
-      ∙ (sym (page_append syntax limits (spot_of syntax st.now.nest) (Ok nothing_read) (bytes ++ st.front) (st.byte ∷ []))
+      ∙ (sym (page_append syntax limits (spot_of syntax st.now.nest) (Ok no_progress) (bytes ++ st.front) (st.byte ∷ []))
       ∙ (ap (λ b. page_read syntax limits b) (append_assoc bytes st.front (st.byte ∷ [])) ∙ st.here)) in
       let token_is = fault_token syntax limits stopped st.byte fault by_byte in
       let are = subst (λ (l : Line). AreLevels syntax line.levels l) (sym line_is) levels_are in

@@ -1,5 +1,5 @@
 -- What holds before the first byte of a page, and goes on with each event, holds wherever a page's bytes lead.
-use Rattle.rx_nest.proofs.Common.{◌≡◌, ◌≢◌, ◌∙◌, ℕ, ◌<◌, Bool, true, false, List, [], ◌∷◌, ◌++◌, refl, sym, subst, length, append_assoc, append-nil, Option, Some, None, Result, Ok, Err, arith, nat_tests, ◌&&◌, not, nat_le, if◌then◌else◌, Chars, by_test, Syntax, same, is_among, Tag, Token, tag, character, reference, kept, section, comment, doctype, is_alone, is_html, is_plaintext, is_self_closed, hides, StartTag, Item, is_line_feed, start_of, enders, is_omissible, is_held, root_name, Line, inside_of, parent_of, Phase, before, within, first_row, tag_rows, start_rows, end_rows, under_start, after_start, after_end, is_innermost, has_ended, is_before, is_no_line, Kind, Limits, Progress, with_events, step_on, steps_on, no_step, page_read, nothing_read, Event, begins, says, finishes, Nesting, not_begun, Step, nest_step, step_by, unless_refused, tag_passes, begun_under, over, line_above, text_step, told, doctype_step, going_on, ended_by_start, ended_under, ended_by_end, Goes, stands, goes}
+use Rattle.rx_nest.proofs.Common.{◌≡◌, ◌≢◌, ◌∙◌, ℕ, ◌<◌, Bool, true, false, List, [], ◌∷◌, ◌++◌, refl, sym, subst, length, append_assoc, append-nil, Option, Some, None, Result, Ok, Err, arith, nat_tests, ◌&&◌, not, nat_le, if◌then◌else◌, Chars, by_test, Syntax, same, is_among, Tag, Token, tag, character, reference, kept, section, comment, doctype, is_alone, is_html, is_plaintext, is_self_closed, hides, StartTag, Item, is_line_feed, start_tag_of, enders, is_omissible, is_held, root_name, Line, inside_of, parent_of, Phase, before, within, first_row, tag_rows, start_rows, end_rows, under_start, after_start, after_end, is_innermost, has_ended, is_before_root, is_no_line, Kind, Limits, Progress, with_events, nest_step_on, steps_on, no_step, page_read, no_progress, Event, begins, says, finishes, Nesting, not_begun, Step, nest_step, step_by, unless_refused, tag_passes, begun_under, over, line_above, text_step, told, doctype_step, going_on, ended_by_start, ended_under, ended_by_end, Goes, stands, goes}
 use Rattle.rx_nest.proofs.TextSteps.{bytes_go}
 
 -- what holds of each
@@ -65,7 +65,7 @@ module _ (syntax : Syntax) (limits : Limits) (holds : Nesting → List Event →
     pub items_hold : (events : List Event) (items : List Item) → AllOf Tagged items → (x : Result Step Kind) → Behind events x → Behind events (steps_on syntax limits.depth x items)
     items_hold events [] tags x h = h
     items_hold events (item ∷ items) tags (Err kind) h = items_hold events items tags.1 (Err kind) tt
-    items_hold events (item ∷ items) tags (Ok step) h = items_hold events items tags.1 (step_on syntax limits.depth (Ok step) item) (by (nest_step syntax limits.depth step.next item) (item_holds step.next (events ++ step.events) item tags.0 h))
+    items_hold events (item ∷ items) tags (Ok step) h = items_hold events items tags.1 (nest_step_on syntax limits.depth (Ok step) item) (by (nest_step syntax limits.depth step.next item) (item_holds step.next (events ++ step.events) item tags.0 h))
       where
         by : (x : Result Step Kind) → Behind (events ++ step.events) x → Behind events (with_events step.events x)
         by (Ok next) k = subst (λ es. holds next.next es) (append_assoc events step.events next.events) k
@@ -85,7 +85,7 @@ module _ (syntax : Syntax) (limits : Limits) (holds : Nesting → List Event →
     module _ (tags : (item : Item) → Tagged item) where
       pub page_holds : (bytes : List ℕ) (q : Progress) → holds not_begun [] → page_read syntax limits bytes ≡ Ok q → holds q.now.nest q.told
       page_holds bytes q h e =
-          bytes_go syntax limits (λ rest p. holds p.now.nest p.told) (λ byte rest p scanned step a b k. steps_hold p.now.nest p.told scanned.items step b (all_are Tagged tags scanned.items) k) bytes nothing_read q e h
+          bytes_go syntax limits (λ rest p. holds p.now.nest p.told) (λ byte rest p scanned step a b k. steps_hold p.now.nest p.told scanned.items step b (all_are Tagged tags scanned.items) k) bytes no_progress q e h
 
 -- no element is open before the root and behind it, and one is within
 abbrev pub Sound : Phase → Line → Type 0
@@ -112,7 +112,7 @@ module _ (syntax : Syntax) (limits : Limits) (P : Bool → Line → List Event �
   pub record Tagging (item : Item) (t : Tag) : Type 0 where
     pub finish : (u : StartTag) (line : Line) (events : List Event) → P true (u ∷ line) events → P true line (events ++ finishes ∷ [])
     pub begin : (b : Bool) (line : Line) (events : List Event) → (b ≡ true → line ≢ []) → (b ≡ false → line ≡ []) → length line < limits.depth → P b line events
-        → P true (start_of item t ∷ line) (events ++ begins (start_of item t) (hides (inside_of syntax line) t) ∷ [])
+        → P true (start_tag_of item t ∷ line) (events ++ begins (start_tag_of item t) (hides (inside_of syntax line) t) ∷ [])
 
   abbrev pub Saying : Type 0
   Saying = (u : StartTag) (line : Line) (events : List Event) (chars : Chars) → P true (u ∷ line) events → P true (u ∷ line) (events ++ says chars ∷ [])
@@ -153,7 +153,7 @@ module _ (syntax : Syntax) (limits : Limits) (P : Bool → Line → List Event �
       gone = ended_under syntax t.name n.line
 
       abbrev own : Event
-      own = begins (start_of item t) (hides (inside_of syntax left) t)
+      own = begins (start_tag_of item t) (hides (inside_of syntax left) t)
 
       abbrev Left : Bool → Line → List Event → Type 0
       Left b line es = P b line (events ++ es) × (b ≡ true → line ≢ []) × (b ≡ false → line ≡ [])
@@ -180,8 +180,8 @@ module _ (syntax : Syntax) (limits : Limits) (P : Bool → Line → List Event �
           by_test (is_alone syntax (inside_of syntax left) t)
           (λ e. rw e (over_held left (events ++ (gone ++ own ∷ finishes ∷ []))
           (subst (P true left) (append_assoc (events ++ gone) (own ∷ []) (finishes ∷ []) ∙ append_assoc events gone (own ∷ finishes ∷ []))
-          (on.finish (start_of item t) left ((events ++ gone) ++ own ∷ []) b))))
-          (λ e. rw e (record { sound = λ w. absurd (cc); holds = subst (P true (start_of item t ∷ left)) (append_assoc events gone (own ∷ [])) b }))
+          (on.finish (start_tag_of item t) left ((events ++ gone) ++ own ∷ []) b))))
+          (λ e. rw e (record { sound = λ w. absurd (cc); holds = subst (P true (start_tag_of item t ∷ left)) (append_assoc events gone (own ∷ [])) b }))
 
       ended_held : is_innermost t.name (after_end syntax t.name n.line) ≡ true → Held (over (line_above (after_end syntax t.name n.line))) (events ++ (ended_by_end syntax t.name n.line ++ finishes ∷ []))
       ended_held named = by n.phase n.line h.sound named h.holds
@@ -207,7 +207,7 @@ module _ (syntax : Syntax) (limits : Limits) (P : Bool → Line → List Event �
           by true k = ended_held (last_passes (is_no_line n.line) (is_innermost t.name (after_end syntax t.name n.line)) Kind.NothingOpen Kind.Mismatch k)
           by false k =
               let f =
-              first_and_last (has_ended n.phase) (is_before n.phase && not (same t.name root_name)) (is_plaintext syntax (inside_of syntax n.line) t) (is_self_closed syntax (inside_of syntax n.line) t) (nat_le limits.depth (length left))
+              first_and_last (has_ended n.phase) (is_before_root n.phase && not (same t.name root_name)) (is_plaintext syntax (inside_of syntax n.line) t) (is_self_closed syntax (inside_of syntax n.line) t) (nat_le limits.depth (length left))
               Kind.Outside Kind.RootNotHtml Kind.Plaintext Kind.SelfClosed Kind.TooDeep k in
               begun_held f.0 (room (length left) limits.depth f.1)
 

@@ -1,5 +1,5 @@
 -- Where the faults lie that a piece of a page brings, and what stands before them.
-use Rattle.rx_nest.proofs.Common.{◌≡◌, ◌∙◌, ℕ, ◌+◌, ◌≤◌, ◌<◌, List, [], ◌∷◌, ◌++◌, length, take, drop, refl, sym, ap, subst, Option, Some, None, Result, Ok, arith, less_than_sign, Syntax, Line, Phase, Item, Tree, Page, Fault, Limits, closed, IsWide, IsFront, Bare, AllEnd, ClosedTells, Event, begins, says, finishes, Nesting, Goes, StartTag, not_begun, Progress, page_read, read_size, take-append-drop, length-take-le, take-append-le, fronts_tell, Sign, Sight, sees, nothing_seen, signs_of, ReaderRefuses, IsAcceptedPage, IsAcceptedFront, Way, IsRefusal, ⊎_elim}
+use Rattle.rx_nest.proofs.Common.{◌≡◌, ◌∙◌, ℕ, ◌+◌, ◌≤◌, ◌<◌, List, [], ◌∷◌, ◌++◌, length, take, drop, refl, sym, ap, subst, Option, Some, None, Result, Ok, arith, less_than_sign, Syntax, Line, Phase, Item, Tree, Page, Fault, Limits, closed, IsWide, IsPageFront, Bare, AllEnd, ClosedTells, Event, begins, says, finishes, Nesting, Goes, StartTag, not_begun, Progress, page_read, read_size, take-append-drop, length-take-le, take-append-le, fronts_tell, Sign, Sight, sees, nothing_seen, signs_of, ReaderRefuses, IsAcceptedPage, IsAcceptedFront, Way, IsRefusal, ⊎_elim}
 use Rattle.rx_nest.proofs.TagPlaces.{shows_more}
 use Rattle.rx_nest.proofs.TextSteps.{sees_append}
 use Rattle.rx_nest.proofs.FaultPlacing.{read_front, page_shows}
@@ -99,12 +99,12 @@ module _ (way : Way) (law : IsRefusal way.refused) (bytes : List ℕ) (fault : F
         ap way.refused (closed_shows way.syntax way.limits front line phase t wide is_wide t.tree (t.page wide is_wide))
         ∙ bare_accepted way.refused law t.more (sees nothing_seen t.events) (bare_such t.more t.bare) told_accepted
 
-  closes_accepted : (f : IsFront way.syntax way.limits front) → 1 ≤ way.limits.depth → IsAcceptedPage way (closed front f.line f.phase)
+  closes_accepted : (f : IsPageFront way.syntax way.limits front) → 1 ≤ way.limits.depth → IsAcceptedPage way (closed front f.line f.phase)
   closes_accepted f d =
       let t = fronts_tell way.syntax way.limits front f.next f.line f.phase d f.begun in
       record { tree = t.tree; page = t.page; accepted = closed_accepted f.line f.phase t }
 
   pub accepted_front : IsAcceptedFront way front
   accepted_front =
-      let f = subst (λ b. IsFront way.syntax way.limits (take fault.token b)) (sym m.are) (refused_fronts way law m.front m.rest m.now fault m.read m.refused) in
+      let f = subst (λ b. IsPageFront way.syntax way.limits (take fault.token b)) (sym m.are) (refused_fronts way law m.front m.rest m.now fault m.read m.refused) in
       record { next = f.next; line = f.line; phase = f.phase; begun = f.begun; closes = closes_accepted f }

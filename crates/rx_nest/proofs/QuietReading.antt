@@ -1,5 +1,5 @@
 -- What is read of a piece without `<` and `&` between two tokens: text.
-use Rattle.rx_nest.proofs.Common.{◌≡◌, ◌∙◌, ℕ, zero, suc, ◌<◌, Bool, true, false, List, [], ◌∷◌, ◌++◌, map, take, drop, refl, sym, ap, ap₂, subst, Option, None, Some, Result, Ok, Err, eqb-true, lit<, append_assoc, append-nil, ◌&&◌, ◌||◌, ◌==◌, not, if◌then◌else◌, and_from, or_parts, append_cancel_left, map-append, less_than_sign, ampersand, greater_than_sign, Chars, by_test, split, both, untrue, Syntax, Char, answer_of, Entry, carriage_return, as_line_end, Tag, tag, has_references, is_text, values, Item, is_literal, StartTag, Content, Kind, Limits, Verdict, goes_on, whole, ended, refused, verdict, at_first, Spot, spot_of, Scanning, starts_at, Scanned, is_doctype, item_of, completed, read_byte, Progress, steps_on, no_step, page_on, page_read, nothing_read, page_append, Stop, token_of_item, equal, IsNoMemory, is_quiet, Nested, Stepped, event_signs, IsBetween, Sign, said, Sight, is_hidden, sees, nothing_seen, finishing, OwesNone, is_calm, HasMemory}
+use Rattle.rx_nest.proofs.Common.{◌≡◌, ◌∙◌, ℕ, zero, suc, ◌<◌, Bool, true, false, List, [], ◌∷◌, ◌++◌, map, take, drop, refl, sym, ap, ap₂, subst, Option, None, Some, Result, Ok, Err, eqb-true, lit<, append_assoc, append-nil, ◌&&◌, ◌||◌, ◌==◌, not, if◌then◌else◌, and_from, or_parts, append_cancel_left, map-append, less_than_sign, ampersand, greater_than_sign, Chars, by_test, split, both, untrue, Syntax, Char, answer_of, PlacedCharacter, carriage_return, as_line_end, Tag, tag, has_references, is_text, values, Item, is_literal, StartTag, Content, Kind, Limits, Verdict, goes_on, whole, ended, refused, verdict, first_verdict, Spot, spot_of, Scanning, starts_at, Scanned, is_doctype, item_of_run, completed, read_byte, Progress, steps_on, no_step, page_on, page_read, no_progress, page_append, Stop, token_of_item, equal, IsNoMemory, is_quiet, Nested, NestStepped, event_signs, IsBetween, Sign, said, Sight, is_hidden, sees, nothing_seen, finishing, OwesNone, is_calm, HasMemory}
 use Rattle.rx_pages.specs.Nesting.{Event, begins, says, finishes, Nesting, Step}
 use Rattle.rx_pages.specs.PageReader as reader
 use Rattle.rx_grammar.specs.declared.stops.Stop.TheVariants as stop
@@ -25,7 +25,7 @@ Plain (whole token) = (t : Tag) → token ≡ tag t → ⊥
 Plain (ended token) = ⊥
 Plain (refused kind) = Unit {0}
 
-first_plain : (inside : Content) (c : ℕ) → (c == less_than_sign) ≡ false → (c == ampersand) ≡ false → Plain (at_first inside c)
+first_plain : (inside : Content) (c : ℕ) → (c == less_than_sign) ≡ false → (c == ampersand) ≡ false → Plain (first_verdict inside c)
 first_plain inside c a b =
     split Plain (c == less_than_sign || (c == ampersand && has_references inside)) _ _ (λ t. absurd (let w : true ≡ false = sym t ∙ ap₂ (λ x y. x || (y && has_references inside)) a b in cc))
     (λ f. split Plain (is_text inside c) _ _ (λ t. λ u k. cc) (λ t. tt))
@@ -39,10 +39,10 @@ module _ (syntax : Syntax) (limits : Limits) (spot : Spot) where
   completed_calm s after_return item k =
       split Calm (s.two && is_literal greater_than_sign item) _ _ (λ e. tt) (λ e. split Calm (is_doctype item.token && not spot.leads) _ _ (λ d. tt) (λ d. (refl, (k, tt))))
 
-  told_calm : (s : Scanning) (after_return : Bool) (entry : Entry) (v : Verdict) → Plain v → Calm (reader.told syntax limits spot after_return entry s v)
+  told_calm : (s : Scanning) (after_return : Bool) (entry : PlacedCharacter) (v : Verdict) → Plain v → Calm (reader.told syntax limits spot after_return entry s v)
   told_calm s after_return entry goes_on p = absurd p
   told_calm s after_return entry (whole token) p =
-      completed_calm s after_return (item_of spot.inside token (s.run ++ entry ∷ [])) (λ t e. p t (sym (token_of_item spot.inside token (s.run ++ entry ∷ [])) ∙ e))
+      completed_calm s after_return (item_of_run spot.inside token (s.run ++ entry ∷ [])) (λ t e. p t (sym (token_of_item spot.inside token (s.run ++ entry ∷ [])) ∙ e))
   told_calm s after_return entry (ended token) p = absurd p
   told_calm s after_return entry (refused kind) p = tt
 
@@ -136,7 +136,7 @@ module _ (syntax : Syntax) (limits : Limits) where
 
   pub quiet_read : (bytes piece : List ℕ) (p q : Progress) → page_read syntax limits bytes ≡ Ok p → p.now.scan.run ≡ [] → is_quiet piece ≡ true → page_read syntax limits (bytes ++ piece) ≡ Ok q → Quietly bytes piece p q
   quiet_read bytes piece p q r e quiet s =
-      let on : page_on syntax limits (Ok p) piece ≡ Ok q = ap (λ x. page_on syntax limits x piece) (sym r) ∙ (sym (page_append syntax limits (spot_of syntax p.now.nest) (Ok nothing_read) bytes piece) ∙ s) in
+      let on : page_on syntax limits (Ok p) piece ≡ Ok q = ap (λ x. page_on syntax limits x piece) (sym r) ∙ (sym (page_append syntax limits (spot_of syntax p.now.nest) (Ok no_progress) bytes piece) ∙ s) in
       let c = all_calm p.told piece p q on (e, record { more = []; is = sym (append-nil p.told); say = tt }, quiet) in
       let seen = seen_says c.1.more (sees nothing_seen p.told) c.1.say in
       record {
@@ -188,7 +188,7 @@ pub record StepsQuietly (syntax : Syntax) (limits : Limits) (bytes piece : List 
   pub between : IsBetween syntax limits (bytes ++ take n piece)
 
 pub steps_quietly : (syntax : Syntax) (limits : Limits) (bytes piece : List ℕ) (signs : List Sign) (old new : Nested) (n : ℕ) (e : Shown) → nests.NestStands syntax limits old bytes signs → OwesNone old → IsBetween syntax limits bytes → is_quiet piece ≡ true
-    → Stepped syntax limits bytes signs piece n e new → StepsQuietly syntax limits bytes piece n e new
+    → NestStepped syntax limits bytes signs piece n e new → StepsQuietly syntax limits bytes piece n e new
 steps_quietly syntax limits bytes piece signs old new n e st paid b quiet s =
     let p : Progress = record { now = st.at.now; told = st.told } in
     let q : Progress = record { now = s.stands.at.now; told = s.stands.told } in

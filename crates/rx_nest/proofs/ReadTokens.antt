@@ -1,5 +1,5 @@
 -- What was taken of a piece, and what the elements made of it, is what the page's bytes lead to.
-use Rattle.rx_nest.proofs.Common.{◌≡◌, ◌≢◌, ◌∙◌, ℕ, ◌+◌, Bool, true, false, List, [], ◌∷◌, ◌++◌, refl, sym, ap, subst, length, append_assoc, append-nil, Some, Result, Ok, Err, ◌&&◌, if◌then◌else◌, map, take, drop, codes, chars, Chars, by_test, Syntax, Html, Xhtml, same, is_among, name_of_raw, Place, inside_html, in_html, html_in_svg, inside_at, raw_place, raw_names, rcdata_names, Item, Line, inside_of, Content, RawName, Fault, Kind, Limits, Event, Nesting, Step, content_at, nest_step, Spot, spot_of, Scanning, scan_from, may_lead, Progress, Stop, take-append-drop, tag_seen, Setting, Scanner, IsNoMemory, shows_tag, shows_skipped, IsTag, Skips, a_mark, a_comment, an_empty_section, a_line_feed, Shows, ShowsTag, ends_leading, setting_behind, is_more, is_of_syntax, Lines, TagGives, GivesBy, own_of_end, shown_under, says_text, Sign, said, is_hidden, finishing, Follows, flags_of, phase_at, own_signs, own_tag, tag_by, TakesToken, token_result, IsBetween, begins_own, IsATag, hears_skipped, a_skipped_one, a_doctype, some_text, TokenOf, Completes, At, setting_of, start_seen, heard_signs, StaysAtFault, Lends, hears_more, Heeds, ReadGives, last_text, has_text, last_tag}
+use Rattle.rx_nest.proofs.Common.{◌≡◌, ◌≢◌, ◌∙◌, ℕ, ◌+◌, Bool, true, false, List, [], ◌∷◌, ◌++◌, refl, sym, ap, subst, length, append_assoc, append-nil, Some, Result, Ok, Err, ◌&&◌, if◌then◌else◌, map, take, drop, codes, chars, Chars, by_test, Syntax, Html, Xhtml, same, is_among, name_of_raw, Place, inside_html, in_html, html_in_svg, inside_at, raw_place, raw_names, rcdata_names, Item, Line, inside_of, Content, RawName, Fault, Kind, Limits, Event, Nesting, Step, content_at, nest_step, Spot, spot_of, Scanning, scan_from, may_lead, Progress, Stop, take-append-drop, tag_seen, Setting, Scanner, IsNoMemory, shows_tag, shows_skipped, IsTag, Skips, a_mark, a_comment, an_empty_section, a_line_feed, Shows, ShowsTag, ends_leading, setting_behind, wants_more, is_of_syntax, Lines, TagGives, GivesBy, own_of_end, shown_under, says_text, Sign, said, is_hidden, finishing, Follows, flags_of, phase_at, own_signs, own_tag, tag_by, TakesToken, token_result, IsBetween, begins_own, IsATag, hears_skipped, a_skipped_one, a_doctype, some_text, TokenOf, Completes, At, setting_of, start_seen, heard_signs, StaysAtFault, Lends, hears_more, Heeds, NestReadGives, last_text, gives_text, last_tag}
 use Rattle.rx_grammar.specs.declared.contents.Content.TheVariants as content
 use Rattle.rx_grammar.specs.Tokens as tokens
 use Rattle.rx_grammar.specs.declared.stops.Stop.TheVariants as stop
@@ -14,14 +14,14 @@ use Rattle.rx_nest.specs.declared.tree_tokens.TreeToken.TheVariants as tree_toke
 use Rattle.rx_nest.specs.declared.lines.TagEffect.{TagEffect}
 use Rattle.rx_nest.specs.declared.lines.Refused.{Refused}
 use Rattle.rx_nest.specs.declared.lines.Refused.TheVariants as refused
-use Rattle.rx_nest.specs.Levels.{Levels, place_under, kept, ends_by}
+use Rattle.rx_nest.specs.Levels.{Levels, place_under, kept_levels, ends_by}
 use Rattle.rx_nest.proofs.LineLemmas.{same_of}
 use Rattle.rx_nest.proofs.Takes.{Taken, has_begun, tag_steps}
 use Rattle.rx_nest.proofs.TextSteps.{said_by, Quiet, none_quiet, texts_quiet, comment_quiet, empty_quiet, line_feed_quiet}
 use Rattle.rx_nest.proofs.Heeding.{scan_fails, scan_is, quiet_at, quiet_shows, said_is, behind_is, doctype_at, tag_stops, tag_leads}
 
 -- the text that is shown is the one that was told
-text_is : (answer : TokenKind) (v : Scanner) → v.what ≡ answer → (text : _) → Shows answer v.reading (token.Text text) → (chars text.now ≡ last_text v) × (has_text v.what ≡ true)
+text_is : (answer : TokenKind) (v : Scanner) → v.what ≡ answer → (text : _) → Shows answer v.reading (token.Text text) → (chars text.now ≡ last_text v) × (gives_text v.what ≡ true)
 text_is what.Text v e text s = rw e (s, refl)
 text_is what.Section v e text s = rw e (s, refl)
 text_is what.Tag v e text s = elim s [ ]
@@ -67,10 +67,10 @@ module _ where
 
 -- Nothing is heard exactly where no token is complete; only a tag is refused, and a fault leaves the elements as they were.
 abbrev pub Answers : Token → Result TreeToken Stop → Lines → Lines → Type 0
-Answers t (Ok h) old new = is_more t ≡ hears_more h
+Answers t (Ok h) old new = wants_more t ≡ hears_more h
 Answers t (Err why) old new = (shows_tag t ≡ true) × StaysAtFault {A = ℕ × TreeToken} (Err why) old new
 
-tag_answers : (t : Token) → is_more t ≡ false → shows_tag t ≡ true → (g : Tag) (old new : Lines) (closing : Bool) (taken : Result TagEffect Refused) → GivesBy closing old (tag_seen g) taken new → Answers t (token_result g taken) old new
+tag_answers : (t : Token) → wants_more t ≡ false → shows_tag t ≡ true → (g : Tag) (old new : Lines) (closing : Bool) (taken : Result TagEffect Refused) → GivesBy closing old (tag_seen g) taken new → Answers t (token_result g taken) old new
 tag_answers t m s g old new closing (Ok tells) gives = m
 tag_answers t m s g old new true (Err (refused.Fault kind)) gives = (s, gives.1)
 tag_answers t m s g old new false (Err (refused.Fault kind)) gives = (s, gives.1)
@@ -107,7 +107,7 @@ becomes old new nest t tells f true h =
       depth = ap (λ (x : Lines). x.depth) h.becomes;
       begun = ap (λ (x : Lines). x.begun) h.becomes ∙ begun;
       leads = λ e. ap may_lead (f.phase_is ∙ ap (λ x. phase_at x old.levels f.stood) begun) ∙ no_lead old.levels f.stood;
-      opening = λ e. absurd (let w : true ≡ false = sym e ∙ (ap begins_own h.own ∙ end_begins (kept (ends_by true t.name) old.levels)) in cc);
+      opening = λ e. absurd (let w : true ≡ false = sym e ∙ (ap begins_own h.own ∙ end_begins (kept_levels (ends_by true t.name) old.levels)) in cc);
     }
 
 abbrev silent : Bool → List Sign
@@ -172,9 +172,9 @@ module _ (syntax : Syntax) (limits : Limits) (bytes : List ℕ) (told : List Eve
     abbrev pub Gives : Result TreeToken Stop → Lines → Type 0
     Gives (Ok (tree_token.Tag tells)) new =
         (is_of_syntax mid.reading.setting.syntax (place_under new.levels).content ≡ true)
-        × (scan.ScanStands (scan.inside_of (place_under new.levels).content tells.drops mid) st.scanned.next → Heeds syntax limits bytes told piece n (tree_token.Tag tells) line (scan.inside_of (place_under new.levels).content tells.drops mid) new)
+        × (scan.ScanStands (scan.moved_inside (place_under new.levels).content tells.drops mid) st.scanned.next → Heeds syntax limits bytes told piece n (tree_token.Tag tells) line (scan.moved_inside (place_under new.levels).content tells.drops mid) new)
     Gives (Ok h) new = Heeds syntax limits bytes told piece n h line mid new
-    Gives (Err why) new = ReadGives syntax limits bytes told piece line (Err why) mid new
+    Gives (Err why) new = NestReadGives syntax limits bytes told piece line (Err why) mid new
 
     -- a tag
     module _ (g : Tag) (is : IsTag (tag_seen g) g.token g.at items) (ends : st.scanned.next.at ≡ g.at + 1) (closing : Bool) (which : (tag_seen g).closing ≡ closing) (shown : TagShown mid closing g)
@@ -208,7 +208,7 @@ module _ (syntax : Syntax) (limits : Limits) (bytes : List ℕ) (told : List Eve
         mid_setting : mid.reading.setting ≡ setting_behind t (setting_of syntax limits nest) (item ∷ [])
         mid_setting = st.setting ∙ (ap (λ i. setting_behind t v.reading.setting i) is.one ∙ ap (λ x. setting_behind t x (item ∷ [])) at.setting)
 
-        setting_same : (scan.inside_of inside tells.drops mid).reading.setting ≡ setting_of syntax limits step.next
+        setting_same : (scan.moved_inside inside tells.drops mid).reading.setting ≡ setting_of syntax limits step.next
         setting_same =
             ap (λ (x : Setting). record { syntax = x.syntax; limits = x.limits; inside = inside; leads = x.leads; drops = tells.drops }) mid_setting
             ∙ (ap (λ x. record { syntax = syntax; limits = limits; inside = inside; leads = x; drops = tells.drops }) (leading b.leads ∙ sym (ap may_lead (taken.follows.phase_is ∙ ap (λ x. phase_at x new.levels taken.follows.stood) b.begun) ∙ no_lead new.levels taken.follows.stood))
@@ -225,7 +225,7 @@ module _ (syntax : Syntax) (limits : Limits) (bytes : List ℕ) (told : List Eve
         content_is : is_of_syntax mid.reading.setting.syntax inside ≡ true
         content_is = ap (λ x. is_of_syntax mid.reading.setting.syntax x) inside_same ∙ (ap (λ (x : Setting). is_of_syntax x.syntax (content_at syntax step.next)) mid_setting ∙ inside_is syntax step.next.line)
 
-        tag_heeds : scan.ScanStands (scan.inside_of inside tells.drops mid) st.scanned.next → Heeds syntax limits bytes told piece n (tree_token.Tag tells) line (scan.inside_of inside tells.drops mid) new
+        tag_heeds : scan.ScanStands (scan.moved_inside inside tells.drops mid) st.scanned.next → Heeds syntax limits bytes told piece n (tree_token.Tag tells) line (scan.moved_inside inside tells.drops mid) new
         tag_heeds stands =
             record {
               fits = st.fits;
@@ -294,7 +294,7 @@ module _ (syntax : Syntax) (limits : Limits) (bytes : List ℕ) (told : List Eve
   not_tag piece n t mid st (tree_token.Tag told) new none g = absurd (none told refl)
   not_tag piece n t mid st _ new none g = g
 
-  pub scan_stops : (piece : List ℕ) (stop : Stop) (other : Scanner) (new : Lines) → scan.Steps v s piece (Err stop) other → ReadGives syntax limits bytes told piece line (Err stop) other new
+  pub scan_stops : (piece : List ℕ) (stop : Stop) (other : Scanner) (new : Lines) → scan.Steps v s piece (Err stop) other → NestReadGives syntax limits bytes told piece line (Err stop) other new
   scan_stops piece (stop.Fault fault) other new f = scan_fails syntax limits bytes told v line at piece fault f
   scan_stops piece stop.NoMemory other new f = tt
 

@@ -1,5 +1,5 @@
 -- Behind a start tag that is refused nothing is unfinished.
-use Rattle.rx_nest.proofs.Common.{◌≡◌, ◌∙◌, ⊎_elim, ℕ, ◌+◌, ◌<◌, List, [], ◌∷◌, ◌++◌, length, take, refl, sym, ap, subst, append-nil, Some, None, Ok, arith, length-append, Fault, spot_of, Progress, page_on, page_read, nothing_read, ReadsTo, page_append, nothing_unfinished, length-take-le, get_or, take_more, Sight, sees, nothing_seen, signs_of, Way, IsRefusal, ReaderRefuses, RefusesLast}
+use Rattle.rx_nest.proofs.Common.{◌≡◌, ◌∙◌, ⊎_elim, ℕ, ◌+◌, ◌<◌, List, [], ◌∷◌, ◌++◌, length, take, refl, sym, ap, subst, append-nil, Some, None, Ok, arith, length-append, Fault, spot_of, Progress, page_on, page_read, no_progress, ReadsTo, page_append, nothing_unfinished, length-take-le, get_or, take_more, Sight, sees, nothing_seen, signs_of, Way, IsRefusal, ReaderRefuses, RefusesLast}
 use Rattle.rx_nest.proofs.PageWalks.{page_sound}
 use Rattle.rx_nest.proofs.TextSteps.{sees_append, byte_goes}
 use Rattle.rx_nest.proofs.TagPlaces.{shows_more}
@@ -27,7 +27,7 @@ module _ (way : Way) (law : IsRefusal way.refused) where
       (λ n. absurd (some_none (way.refused (shown q)) fault (ap way.refused same ∙ bare_accepted way.refused law step.events (sees nothing_seen p.told) (bare n) none) some))
       (λ d. (ap (λ (x : Progress). x.now.scan.run) (sym is) ∙ d.0, ap (λ (x : Progress). x.now.scan.held) (sym is) ∙ d.1))
       (subst (After p.now.scan) e (byte_tags way.syntax way.limits (spot_of way.syntax p.now.nest) p.now.scan byte)).settles)
-      (ap (λ x. page_on way.syntax way.limits x (byte ∷ [])) (sym r) ∙ (sym (page_append way.syntax way.limits (spot_of way.syntax p.now.nest) (Ok nothing_read) init (byte ∷ [])) ∙ s))
+      (ap (λ x. page_on way.syntax way.limits x (byte ∷ [])) (sym r) ∙ (sym (page_append way.syntax way.limits (spot_of way.syntax p.now.nest) (Ok no_progress) init (byte ∷ [])) ∙ s))
 
   -- so are the bytes through the tag
   module _ (bytes : List ℕ) (fault : Fault) (m : ReaderRefuses way bytes fault) where

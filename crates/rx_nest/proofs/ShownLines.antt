@@ -1,6 +1,6 @@
 -- What a nest has shown to begin, and not to end, are the open elements that the tree shows.
-use Rattle.rx_nest.proofs.Common.{◌≡◌, ◌∙◌, ℕ, Bool, true, false, List, [], ◌∷◌, ◌++◌, refl, sym, ap, subst, append-nil, Ok, ◌||◌, not, if◌then◌else◌, map, Chars, Syntax, hides, StartTag, start_of, Line, inside_of, Limits, Progress, page_read, reads_to, is_underway, ok_is, Event, begins, says, finishes, Nesting, Sign, begun, said, finished, Flags, is_hidden, Sight, see, sees, ended_sight, nothing_seen}
-use Rattle.rx_nest.specs.ShownLines.{tag_of, is_hidden_in, shown_line, outer, open_on, open_after, StandsUnderway, ShowsOpenOnes}
+use Rattle.rx_nest.proofs.Common.{◌≡◌, ◌∙◌, ℕ, Bool, true, false, List, [], ◌∷◌, ◌++◌, refl, sym, ap, subst, append-nil, Ok, ◌||◌, not, if◌then◌else◌, map, Chars, Syntax, hides, StartTag, start_tag_of, Line, inside_of, Limits, Progress, page_read, reads_to, is_underway, ok_is, Event, begins, says, finishes, Nesting, Sign, begun, said, finished, Flags, is_hidden, Sight, see, sees, ended_sight, nothing_seen}
+use Rattle.rx_nest.specs.ShownLines.{unplaced_tag, is_hidden_in, shown_line, outer, open_on, open_after, StandsUnderway, ShowsOpenOnes}
 use Rattle.rx_nest.proofs.PageWalks.{page_held as page_walk}
 use Rattle.rx_nest.proofs.TextSteps.{seen_on}
 
@@ -28,17 +28,17 @@ module _ (syntax : Syntax) where
     pub open_are : open_after [] sight.signs ≡ shown_line syntax line
 
   -- an element begins
-  begin_marks : (t : StartTag) (line : Line) (sight : Sight) → Marks line sight → Marks (t ∷ line) (see (begins t (hides (inside_of syntax line) (tag_of t))) sight.flags sight.signs)
+  begin_marks : (t : StartTag) (line : Line) (sight : Sight) → Marks line sight → Marks (t ∷ line) (see (begins t (hides (inside_of syntax line) (unplaced_tag t))) sight.flags sight.signs)
   begin_marks t line sight m = by (is_hidden sight.flags) (ap is_hidden m.flags_are ∙ hidden_is syntax line)
     where
       by : (b : Bool) → b ≡ is_hidden_in syntax line
-          → Marks (t ∷ line) (if b then record { flags = (false, true) ∷ sight.flags; signs = sight.signs } else record { flags = (true, hides (inside_of syntax line) (tag_of t)) ∷ sight.flags; signs = sight.signs ++ begun t ∷ [] })
+          → Marks (t ∷ line) (if b then record { flags = (false, true) ∷ sight.flags; signs = sight.signs } else record { flags = (true, hides (inside_of syntax line) (unplaced_tag t)) ∷ sight.flags; signs = sight.signs ++ begun t ∷ [] })
       by true e = record {
-        flags_are = ap (λ (fs : Flags). (false, true) ∷ fs) m.flags_are ∙ ap (λ b. (not b, b || hides (inside_of syntax line) (tag_of t)) ∷ flags_over syntax line) e;
+        flags_are = ap (λ (fs : Flags). (false, true) ∷ fs) m.flags_are ∙ ap (λ b. (not b, b || hides (inside_of syntax line) (unplaced_tag t)) ∷ flags_over syntax line) e;
         open_are = m.open_are ∙ ap (λ b. if b then shown_line syntax line else t ∷ shown_line syntax line) e;
       }
       by false e = record {
-        flags_are = ap (λ (fs : Flags). (true, hides (inside_of syntax line) (tag_of t)) ∷ fs) m.flags_are ∙ ap (λ b. (not b, b || hides (inside_of syntax line) (tag_of t)) ∷ flags_over syntax line) e;
+        flags_are = ap (λ (fs : Flags). (true, hides (inside_of syntax line) (unplaced_tag t)) ∷ fs) m.flags_are ∙ ap (λ b. (not b, b || hides (inside_of syntax line) (unplaced_tag t)) ∷ flags_over syntax line) e;
         open_are = open_append [] sight.signs (begun t ∷ []) ∙ (ap (λ (x : Line). t ∷ x) m.open_are ∙ ap (λ b. if b then shown_line syntax line else t ∷ shown_line syntax line) e);
       }
 
@@ -69,7 +69,7 @@ module _ (syntax : Syntax) where
         (λ u line events chars m. seen_on (Marks (u ∷ line)) events (says chars) (say_marks chars (u ∷ line) (sees nothing_seen events) m))
         (λ item t. record {
           finish = λ u line events m. seen_on (Marks line) events finishes (finish_marks u line (sees nothing_seen events) m);
-          begin = λ b line events some none l m. seen_on (Marks (start_of item t ∷ line)) events (begins (start_of item t) (hides (inside_of syntax line) t)) (begin_marks (start_of item t) line (sees nothing_seen events) m);
+          begin = λ b line events some none l m. seen_on (Marks (start_tag_of item t ∷ line)) events (begins (start_tag_of item t) (hides (inside_of syntax line) t)) (begin_marks (start_tag_of item t) line (sees nothing_seen events) m);
         })
         (record { flags_are = refl; open_are = refl }) bytes q e).holds;
   }

@@ -1,6 +1,6 @@
 -- Where a page's reading stands, and where its fault is.
-use Rattle.rx_nest.proofs.Common.{append_cancel_left, ◌-◌, take, Syntax, FaultAt, Fault, Limits, Event, Spot, Progress, Reading, spot_of, page_on, page_read, nothing_read, end_of, fault_stays, found_fault, AllSized, all_sized, read_size, page_append, take-append_seam, ◌≡◌, ◌∙◌, ⊎_elim, append-nil, ℕ, ◌+◌, ◌≤◌, ◌<◌, List, [], ◌∷◌, ◌++◌, refl, sym, ap, subst, length, length-append, append_assoc, Ok, Err, arith, faults_follow_fronts, two_fronts}
-use Rattle.rx_nest.specs.Nests.{Faults, NoneYet, Stops}
+use Rattle.rx_nest.proofs.Common.{append_cancel_left, ◌-◌, take, Syntax, FaultAt, Fault, Limits, Event, Spot, Progress, PageReading, spot_of, page_on, page_read, no_progress, page_ended, fault_stays, found_fault, AllSized, all_sized, read_size, page_append, take-append_seam, ◌≡◌, ◌∙◌, ⊎_elim, append-nil, ℕ, ◌+◌, ◌≤◌, ◌<◌, List, [], ◌∷◌, ◌++◌, refl, sym, ap, subst, length, length-append, append_assoc, Ok, Err, arith, faults_follow_fronts, two_fronts}
+use Rattle.rx_nest.specs.Nests.{NestFaults, NoneYet, StopsInPiece}
 use Rattle.rx_nest.proofs.TextSteps.{bytes_go}
 
 module _ (syntax : Syntax) (limits : Limits) where
@@ -12,28 +12,28 @@ module _ (syntax : Syntax) (limits : Limits) where
   pub within_so : (bytes piece : List ℕ) (p : Progress) (fault : Fault) → page_read syntax limits bytes ≡ Ok p → page_read syntax limits (bytes ++ piece) ≡ Err fault → Within bytes piece fault
   within_so bytes piece p fault h f =
       let at = read_size syntax limits bytes p h in
-      let here : page_on syntax limits (Ok p) piece ≡ Err fault = ap (λ x. page_on syntax limits x piece) (sym h) ∙ (sym (page_append syntax limits (spot_of syntax p.now.nest) (Ok nothing_read) bytes piece) ∙ f) in
+      let here : page_on syntax limits (Ok p) piece ≡ Err fault = ap (λ x. page_on syntax limits x piece) (sym h) ∙ (sym (page_append syntax limits (spot_of syntax p.now.nest) (Ok no_progress) bytes piece) ∙ f) in
       let s = subst (λ x. AllSized syntax limits p piece x) here (all_sized syntax limits piece p (omega (arith, at.0, at.1))) in
       record { from = omega (arith, at.0, s.0); within = omega (arith, at.0, s.1, length-append bytes piece) }
 
   found_behind : (bytes : List ℕ) (fault : Fault) → page_read syntax limits bytes ≡ Err fault → (spot : Spot) (rest : List ℕ) → FaultAt syntax limits (bytes ++ rest) fault
   found_behind bytes fault f spot rest =
-      found_fault syntax limits (bytes ++ rest) fault (ap end_of (page_append syntax limits spot (Ok nothing_read) bytes rest ∙ (ap (λ x. page_on syntax limits x rest) f ∙ fault_stays syntax limits fault rest)))
+      found_fault syntax limits (bytes ++ rest) fault (ap page_ended (page_append syntax limits spot (Ok no_progress) bytes rest ∙ (ap (λ x. page_on syntax limits x rest) f ∙ fault_stays syntax limits fault rest)))
 
   -- a fault that a byte of the piece decides is that of the whole piece
-  pub stops_so : (bytes piece : List ℕ) (told : List Event) (fault : Fault) → Stops syntax limits bytes told piece fault → page_read syntax limits (bytes ++ piece) ≡ Err fault
+  pub stops_so : (bytes piece : List ℕ) (told : List Event) (fault : Fault) → StopsInPiece syntax limits bytes told piece fault → page_read syntax limits (bytes ++ piece) ≡ Err fault
   stops_so bytes piece told fault f =
       ap (λ x. page_read syntax limits x) (ap (λ x. bytes ++ x) (f.are ∙ sym (append_assoc f.front (f.byte ∷ []) f.rest)) ∙ sym (append_assoc bytes (f.front ++ f.byte ∷ []) f.rest))
-      ∙ (page_append syntax limits (spot_of syntax f.now.nest) (Ok nothing_read) (bytes ++ (f.front ++ f.byte ∷ [])) f.rest
+      ∙ (page_append syntax limits (spot_of syntax f.now.nest) (Ok no_progress) (bytes ++ (f.front ++ f.byte ∷ [])) f.rest
       ∙ (ap (λ x. page_on syntax limits x f.rest) f.here ∙ fault_stays syntax limits fault f.rest))
 
   -- the fault's place is that of the byte that decides it
-  place_so : (bytes piece : List ℕ) (told : List Event) (fault : Fault) (f : Stops syntax limits bytes told piece fault) → fault.at ≡ length bytes + length f.front
+  place_so : (bytes piece : List ℕ) (told : List Event) (fault : Fault) (f : StopsInPiece syntax limits bytes told piece fault) → fault.at ≡ length bytes + length f.front
   place_so bytes piece told fault f =
       let w = within_so (bytes ++ f.front) (f.byte ∷ []) (record { now = f.now; told = told }) fault f.read (ap (λ x. page_read syntax limits x) (append_assoc bytes f.front (f.byte ∷ [])) ∙ f.here) in
       omega (arith, w.from, w.within, length-append (bytes ++ f.front) (f.byte ∷ []), length-append bytes f.front)
 
-  pub faults_so : (bytes piece : List ℕ) (p : Progress) (told : List Event) (fault : Fault) → page_read syntax limits bytes ≡ Ok p → Stops syntax limits bytes told piece fault → Faults syntax limits bytes piece fault
+  pub faults_so : (bytes piece : List ℕ) (p : Progress) (told : List Event) (fault : Fault) → page_read syntax limits bytes ≡ Ok p → StopsInPiece syntax limits bytes told piece fault → NestFaults syntax limits bytes piece fault
   faults_so bytes piece p told fault h f =
       let whole = stops_so bytes piece told fault f in
       let w = within_so bytes piece p fault h whole in
@@ -52,7 +52,7 @@ module _ (syntax : Syntax) (limits : Limits) where
         before = subst (λ x. NoneYet syntax limits bytes x) (sym front) f.before;
         from = w.from;
         within = w.within;
-        front = faults_follow_fronts syntax limits (bytes ++ piece) fault (found_fault syntax limits (bytes ++ piece) fault (ap end_of whole));
+        front = faults_follow_fronts syntax limits (bytes ++ piece) fault (found_fault syntax limits (bytes ++ piece) fault (ap page_ended whole));
       }
 
   -- what is told only grows
@@ -72,7 +72,7 @@ module _ (syntax : Syntax) (limits : Limits) where
       by [] w = refl
       by (x ∷ es) w = absurd (cc)
 
-  pub still_so : (bytes piece : List ℕ) (now : Reading) (told : List Event) (fault : Fault) → page_read syntax limits bytes ≡ Ok (record { now = now; told = told }) → Stops syntax limits bytes told piece fault
+  pub still_so : (bytes piece : List ℕ) (now : PageReading) (told : List Event) (fault : Fault) → page_read syntax limits bytes ≡ Ok (record { now = now; told = told }) → StopsInPiece syntax limits bytes told piece fault
       → (front rest : List ℕ) (after : Progress) → piece ≡ front ++ rest → page_read syntax limits (bytes ++ front) ≡ Ok after → after.told ≡ told
   still_so bytes piece now told fault h f front rest after e a =
       ⊎_elim (λ d. short front d.z d.is after a) (λ d. by d.z d.is d.rest) (two_fronts front f.front rest (f.byte ∷ f.rest) (sym e ∙ f.are))
@@ -80,9 +80,9 @@ module _ (syntax : Syntax) (limits : Limits) where
       short : (front m : List ℕ) → f.front ≡ front ++ m → (after : Progress) → page_read syntax limits (bytes ++ front) ≡ Ok after → after.told ≡ told
       short front m e after a =
           let first : Grows (record { now = now; told = told }) after =
-          grows front (record { now = now; told = told }) after (ap (λ x. page_on syntax limits x front) (sym h) ∙ (sym (page_append syntax limits (spot_of syntax now.nest) (Ok nothing_read) bytes front) ∙ a)) in
+          grows front (record { now = now; told = told }) after (ap (λ x. page_on syntax limits x front) (sym h) ∙ (sym (page_append syntax limits (spot_of syntax now.nest) (Ok no_progress) bytes front) ∙ a)) in
           let later : page_on syntax limits (Ok after) m ≡ Ok (record { now = f.now; told = told }) =
-          ap (λ x. page_on syntax limits x m) (sym a) ∙ (sym (page_append syntax limits (spot_of syntax now.nest) (Ok nothing_read) (bytes ++ front) m) ∙ (ap (λ x. page_read syntax limits x) (append_assoc bytes front m ∙ ap (λ x. bytes ++ x) (sym e)) ∙ f.read)) in
+          ap (λ x. page_on syntax limits x m) (sym a) ∙ (sym (page_append syntax limits (spot_of syntax now.nest) (Ok no_progress) (bytes ++ front) m) ∙ (ap (λ x. page_read syntax limits x) (append_assoc bytes front m ∙ ap (λ x. bytes ++ x) (sym e)) ∙ f.read)) in
           let second = grows m after (record { now = f.now; told = told }) later in
           let none : first.more ≡ [] = none_more told first.more second.more (second.is ∙ ap (λ x. x ++ second.more) first.is) in
           first.is ∙ (ap (λ x. told ++ x) none ∙ append-nil told)

@@ -1,5 +1,5 @@
 -- Where the tags stand that some bytes show.
-use Rattle.rx_nest.proofs.Common.{Syntax, StartTag, Limits, Event, spot_of, token_at, Progress, page_on, page_read, nothing_read, byte_is, page_append, read_size, ◌≡◌, ◌∙◌, ℕ, ◌+◌, ◌≤◌, ◌<◌, List, [], ◌∷◌, ◌++◌, refl, sym, ap, subst, length, length-append, append_assoc, append-nil, Ok, arith, Sign, begun, said, finished, Sight, sees, nothing_seen, Lie, ShowsMore}
+use Rattle.rx_nest.proofs.Common.{Syntax, StartTag, Limits, Event, spot_of, token_at, Progress, page_on, page_read, no_progress, byte_is, page_append, read_size, ◌≡◌, ◌∙◌, ℕ, ◌+◌, ◌≤◌, ◌<◌, List, [], ◌∷◌, ◌++◌, refl, sym, ap, subst, length, length-append, append_assoc, append-nil, Ok, arith, Sign, begun, said, finished, Sight, sees, nothing_seen, Lie, ShowsMore}
 use Rattle.rx_nest.proofs.PageWalks.{Sound, page_sound}
 use Rattle.rx_nest.proofs.TextSteps.{sees_append, bytes_go}
 use Rattle.rx_nest.proofs.TokenPlacing.{After, AllBegin, AllBegun, TagAt, all_add, begin_append, begin_such, byte_tags, items_such}
@@ -46,13 +46,13 @@ module _ (syntax : Syntax) (limits : Limits) (from to : ℕ) (told : List Event)
 -- each start tag that is told ends within the bytes that were read
 pub page_lies : (syntax : Syntax) (limits : Limits) (bytes : List ℕ) (p : Progress) → page_read syntax limits bytes ≡ Ok p → AllBegin (LiesIn 0 (length bytes)) p.told
 page_lies syntax limits bytes p e =
-    let g = bytes_grown syntax limits 0 (length bytes) [] bytes nothing_read p e (omega arith, omega arith, refl, record { more = []; is = refl; lie = tt }) in
+    let g = bytes_grown syntax limits 0 (length bytes) [] bytes no_progress p e (omega arith, omega arith, refl, record { more = []; is = refl; lie = tt }) in
     subst (AllBegin (LiesIn 0 (length bytes))) (sym g.3.is) g.3.lie
 
 pub shows_more : (syntax : Syntax) (limits : Limits) (bytes more : List ℕ) (was now : Progress) → page_read syntax limits bytes ≡ Ok was → page_read syntax limits (bytes ++ more) ≡ Ok now → ShowsMore syntax limits bytes more was now
 shows_more syntax limits bytes more was now b n =
     let size = (read_size syntax limits bytes was b).0 in
-    let on : page_on syntax limits (Ok was) more ≡ Ok now = ap (λ x. page_on syntax limits x more) (sym b) ∙ (sym (page_append syntax limits (spot_of syntax was.now.nest) (Ok nothing_read) bytes more) ∙ n) in
+    let on : page_on syntax limits (Ok was) more ≡ Ok now = ap (λ x. page_on syntax limits x more) (sym b) ∙ (sym (page_append syntax limits (spot_of syntax was.now.nest) (Ok no_progress) bytes more) ∙ n) in
     let from = length bytes in
     let to = length (bytes ++ more) in
     let g = bytes_grown syntax limits from to was.told more was now on (omega (arith, size), omega (arith, size, length-append bytes more), page_sound syntax limits bytes was b, record { more = []; is = sym (append-nil was.told); lie = tt }) in

@@ -1,12 +1,12 @@
 -- A tag is taken as the tables of nesting say.
-use Rattle.rx_nest.proofs.Common.{◌≡◌, ◌∙◌, ⊎_elim, ℕ, Bool, true, false, List, [], ◌∷◌, ◌++◌, append_assoc, append-nil, refl, sym, ap, subst, length, Option, Some, None, Result, Ok, Err, nat_le, ◌&&◌, ◌||◌, not, if◌then◌else◌, drop, Chars, by_test, Syntax, Tag, tag, Place, is_alone, hides, drops_line_feed, place_in, StartTag, Item, start_of, is_held, Line, inside_of, within, Rows, first_row, start_rows, end_rows, under_start, after_end, has_ended, is_before, Kind, TooDeep, NothingOpen, Mismatch, Nesting, Event, begins, finishes, Step, nest_step, step_by, unless_refused, over, line_above, ended_under, ended_by_end, begun_under, Lines, start_refusals, is_none_open, is_named, kept_at_start, ended_at_start, level_under, TagGives, GivesBy, is_room, Begins, own_of_end, Ends, Sign, begun, finished, Flags, Sight, sees, finishing, is_hidden, AreLevels, Follows, flags_of, phase_at, own_signs, own_tag, tag_by, ap₂}
+use Rattle.rx_nest.proofs.Common.{◌≡◌, ◌∙◌, ⊎_elim, ℕ, Bool, true, false, List, [], ◌∷◌, ◌++◌, append_assoc, append-nil, refl, sym, ap, subst, length, Option, Some, None, Result, Ok, Err, nat_le, ◌&&◌, ◌||◌, not, if◌then◌else◌, drop, Chars, by_test, Syntax, Tag, tag, Place, is_alone, hides, drops_line_feed, place_inside, StartTag, Item, start_tag_of, is_held, Line, inside_of, within, Rows, first_row, start_rows, end_rows, under_start, after_end, has_ended, is_before_root, Kind, TooDeep, NothingOpen, Mismatch, Nesting, Event, begins, finishes, Step, nest_step, step_by, unless_refused, over, line_above, ended_under, ended_by_end, begun_under, Lines, start_refusals, is_none_open, is_open_named, kept_at_start, ended_at_start, level_under, TagGives, GivesBy, is_room, StartTagBegins, own_of_end, EndTagEnds, Sign, begun, finished, Flags, Sight, sees, finishing, is_hidden, AreLevels, Follows, flags_of, phase_at, own_signs, own_tag, tag_by, ap₂}
 use Rattle.std.specs.Option.{option_or}
 use Rattle.rx_nest.specs.declared.lines.TagEffect.{TagEffect}
 use Rattle.rx_nest.specs.declared.lines.Refused.{Refused}
 use Rattle.rx_nest.specs.declared.lines.Refused.TheVariants.{Fault, NoMemory}
 use Rattle.rx_nest.specs.declared.lines.TagAction.{TagAction}
 use Rattle.rx_nest.specs.declared.lines.TagAction.TheVariants.{Alone, Begin, Nothing}
-use Rattle.rx_nest.specs.Levels.{Levels, row_at, place_under, hidden_under, ends_by, kept, ended}
+use Rattle.rx_nest.specs.Levels.{Levels, row_at, place_under, hidden_under, ends_by, kept_levels, ended_count}
 use Rattle.rx_nest.proofs.LineLemmas.{same_of, under_kept, under_seen, end_kept, end_seen}
 use Rattle.rx_nest.proofs.TreeSeen.{over_line}
 
@@ -19,7 +19,7 @@ ended_is : (b : Bool) (levels : Levels) (stood : Bool) → has_ended (phase_at b
 ended_is true (level ∷ levels) stood = refl
 ended_is _ _ stood = refl
 
-before_is : (b : Bool) (levels : Levels) (stood : Bool) → is_before (phase_at b levels stood) ≡ not b
+before_is : (b : Bool) (levels : Levels) (stood : Bool) → is_before_root (phase_at b levels stood) ≡ not b
 before_is true (level ∷ levels) stood = refl
 before_is _ _ stood = refl
 
@@ -44,11 +44,11 @@ module _ (l : Lines) (n : Nesting) (f : Follows l n) where
       ∙ by_test (nat_le l.depth (length (kept_at_start t.name l.levels))) (λ e. rw e refl) (λ e. rw e refl))
 
   -- an end tag
-  pub end_refusals_are : (t : Tag) → end_rows l.syntax n.line t ≡ (is_none_open l.levels, NothingOpen) ∷ (not (is_named t.name (kept (ends_by true t.name) l.levels)), Mismatch) ∷ []
+  pub end_refusals_are : (t : Tag) → end_rows l.syntax n.line t ≡ (is_none_open l.levels, NothingOpen) ∷ (not (is_open_named t.name (kept_levels (ends_by true t.name) l.levels)), Mismatch) ∷ []
   end_refusals_are t =
       rw (
         sym (same_of l.syntax l.levels n.line f.levels_are).none,
-        sym ((same_of l.syntax (kept (ends_by true t.name) l.levels) (after_end l.syntax t.name n.line) (end_kept l.syntax t.name l.levels n.line f.levels_are)).named t.name),
+        sym ((same_of l.syntax (kept_levels (ends_by true t.name) l.levels) (after_end l.syntax t.name n.line) (end_kept l.syntax t.name l.levels n.line f.levels_are)).named t.name),
       ) refl
 
 -- a tag's step, by whether it is an end tag and by the row that refuses it
@@ -102,10 +102,10 @@ module _ (flags : Flags) (signs : List Sign) (s : StartTag) (h : Bool) where
 
 -- what the levels and the elements become
 abbrev next_of : Syntax → Line → Item → Tag → Bool → Nesting
-next_of syntax line item t alone = if alone then over line else record { line = start_of item t ∷ line; phase = within; drops = drops_line_feed (inside_of syntax line) t }
+next_of syntax line item t alone = if alone then over line else record { line = start_tag_of item t ∷ line; phase = within; drops = drops_line_feed (inside_of syntax line) t }
 
 abbrev events_of : Syntax → Line → Item → Tag → Bool → List Event
-events_of syntax line item t alone = if alone then begins (start_of item t) (hides (inside_of syntax line) t) ∷ finishes ∷ [] else begins (start_of item t) (hides (inside_of syntax line) t) ∷ []
+events_of syntax line item t alone = if alone then begins (start_tag_of item t) (hides (inside_of syntax line) t) ∷ finishes ∷ [] else begins (start_tag_of item t) (hides (inside_of syntax line) t) ∷ []
 
 abbrev levels_of : Syntax → Levels → Tag → Bool → Levels
 levels_of syntax levels t alone = if alone then levels else level_under syntax t levels ∷ levels
@@ -128,7 +128,7 @@ module _ (syntax : Syntax) (levels : Levels) (line : Line) (item : Item) (t : Ta
   next_levels true = subst (λ (x : Line). AreLevels syntax levels x) (sym (over_line line)) are
   next_levels false = (
     refl,
-    ap (λ (p : Place). place_in syntax p t.name) (same_of syntax levels line are).place,
+    ap (λ (p : Place). place_inside syntax p t.name) (same_of syntax levels line are).place,
     ap (λ (p : Place). row_at p t.name) (same_of syntax levels line are).place,
     ap (λ name. is_held name t.name) (same_of syntax levels line are).name,
     are,
@@ -146,17 +146,17 @@ module _ (syntax : Syntax) (levels : Levels) (line : Line) (item : Item) (t : Ta
   abbrev own_of : Bool → TagAction
   own_of alone = if hidden_under levels then Nothing else if alone then Alone else Begin
 
-  next_seen : (alone : Bool) (signs : List Sign) → sees (record { flags = flags_of levels; signs = signs }) (events_of syntax line item t alone) ≡ record { flags = flags_of (levels_of syntax levels t alone); signs = signs ++ own_signs (own_of alone) (start_of item t) }
+  next_seen : (alone : Bool) (signs : List Sign) → sees (record { flags = flags_of levels; signs = signs }) (events_of syntax line item t alone) ≡ record { flags = flags_of (levels_of syntax levels t alone); signs = signs ++ own_signs (own_of alone) (start_tag_of item t) }
   next_seen true signs =
-      ap (λ b. alone_seen (flags_of levels) signs (start_of item t) (hides (inside_of syntax line) t) b) (hidden_flags levels)
-      ∙ alone_shows (flags_of levels) signs (start_of item t) (hides (inside_of syntax line) t) (hidden_under levels)
+      ap (λ b. alone_seen (flags_of levels) signs (start_tag_of item t) (hides (inside_of syntax line) t) b) (hidden_flags levels)
+      ∙ alone_shows (flags_of levels) signs (start_tag_of item t) (hides (inside_of syntax line) t) (hidden_under levels)
   next_seen false signs =
-      ap (λ b. sees (if b then record { flags = (false, true) ∷ flags_of levels; signs = signs } else record { flags = (true, hides (inside_of syntax line) t) ∷ flags_of levels; signs = signs ++ begun (start_of item t) ∷ [] }) []) (hidden_flags levels)
-      ∙ (begin_shows (flags_of levels) signs (start_of item t) (hides (inside_of syntax line) t) (hidden_under levels)
-      ∙ ap (λ (p : Place). record { flags = (not (hidden_under levels), hidden_under levels || hides p t) ∷ flags_of levels; signs = signs ++ own_signs (if hidden_under levels then Nothing else Begin) (start_of item t) }) (sym (same_of syntax levels line are).place))
+      ap (λ b. sees (if b then record { flags = (false, true) ∷ flags_of levels; signs = signs } else record { flags = (true, hides (inside_of syntax line) t) ∷ flags_of levels; signs = signs ++ begun (start_tag_of item t) ∷ [] }) []) (hidden_flags levels)
+      ∙ (begin_shows (flags_of levels) signs (start_tag_of item t) (hides (inside_of syntax line) t) (hidden_under levels)
+      ∙ ap (λ (p : Place). record { flags = (not (hidden_under levels), hidden_under levels || hides p t) ∷ flags_of levels; signs = signs ++ own_signs (if hidden_under levels then Nothing else Begin) (start_tag_of item t) }) (sym (same_of syntax levels line are).place))
 
 -- a start tag is taken
-pub start_taken : (l new : Lines) (n : Nesting) (item : Item) (t : Tag) (told : TagEffect) → Follows l n → item.token ≡ tag t → t.closing ≡ false → Begins l t told new → Taken l n item told new
+pub start_taken : (l new : Lines) (n : Nesting) (item : Item) (t : Tag) (told : TagEffect) → Follows l n → item.token ≡ tag t → t.closing ≡ false → StartTagBegins l t told new → Taken l n item told new
 start_taken l new n item t told f is_tag is_start b =
     let ls : Levels = kept_at_start t.name l.levels in
     let line : Line = under_start l.syntax t.name n.line in
@@ -166,7 +166,7 @@ start_taken l new n item t told f is_tag is_start b =
     let becomes : Bool → Lines = λ a. record { syntax = l.syntax; depth = l.depth; begun = true; levels = levels_of l.syntax ls t a } in
     let is : new ≡ becomes alone = b.becomes ∙ ap becomes same_alone in
     let own : told.own ≡ own_of l.syntax ls line item t f.stood are alone = b.own ∙ ap (λ a. own_of l.syntax ls line item t f.stood are a) same_alone in
-    let tag_is : own_tag item ≡ start_of item t = ap (λ token. tag_by item token) is_tag in
+    let tag_is : own_tag item ≡ start_tag_of item t = ap (λ token. tag_by item token) is_tag in
     record {
       step = start_step l.syntax l.depth n item t is_tag is_start alone;
       is_step = start_steps l.syntax l.depth n item t is_tag is_start (start_row l n f t ∙ ap₂ row_by b.allowed b.room);
@@ -178,8 +178,8 @@ start_taken l new n item t told f is_tag is_start b =
       seen = λ signs.
           under_seen l.syntax t.name l.levels n.line signs (events_of l.syntax line item t alone) f.levels_are
           ∙ (next_seen l.syntax ls line item t f.stood are alone (signs ++ finishing (ended_at_start t.name l.levels))
-          ∙ (ap (λ k. record { flags = flags_of (levels_of l.syntax ls t alone); signs = (signs ++ finishing k) ++ own_signs (own_of l.syntax ls line item t f.stood are alone) (start_of item t) }) (sym b.ends)
-          ∙ (ap (λ o. record { flags = flags_of (levels_of l.syntax ls t alone); signs = (signs ++ finishing told.ends) ++ own_signs o (start_of item t) }) (sym own)
+          ∙ (ap (λ k. record { flags = flags_of (levels_of l.syntax ls t alone); signs = (signs ++ finishing k) ++ own_signs (own_of l.syntax ls line item t f.stood are alone) (start_tag_of item t) }) (sym b.ends)
+          ∙ (ap (λ o. record { flags = flags_of (levels_of l.syntax ls t alone); signs = (signs ++ finishing told.ends) ++ own_signs o (start_tag_of item t) }) (sym own)
           ∙ (ap (λ (s : StartTag). record { flags = flags_of (levels_of l.syntax ls t alone); signs = (signs ++ finishing told.ends) ++ own_signs told.own s }) (sym tag_is)
           ∙ ap (λ (x : Lines). record { flags = flags_of x.levels; signs = (signs ++ finishing told.ends) ++ own_signs told.own (own_tag item) }) (sym is)))));
     }
@@ -190,7 +190,7 @@ above_levels syntax [] [] h = h
 above_levels syntax (level ∷ levels) (t ∷ above) h = h.4
 above_levels syntax _ _ h = elim h [ ]
 
-end_shows : (name : Chars) (levels : Levels) (signs : List Sign) (s : StartTag) → is_named name levels ≡ true
+end_shows : (name : Chars) (levels : Levels) (signs : List Sign) (s : StartTag) → is_open_named name levels ≡ true
     → sees (record { flags = flags_of levels; signs = signs }) (finishes ∷ []) ≡ record { flags = flags_of (drop 1 levels); signs = signs ++ own_signs (own_of_end levels) s }
 end_shows name [] signs s h = absurd (cc)
 end_shows name (level ∷ levels) signs s h = by_test level.shown (λ e. rw e refl) (λ e. rw e refl)
@@ -198,9 +198,9 @@ end_shows name (level ∷ levels) signs s h = by_test level.shown (λ e. rw e re
 pub has_begun : (l : Lines) (n : Nesting) → Follows l n → is_none_open l.levels ≡ false → l.begun ≡ true
 has_begun l n f h = by_test l.begun (λ e. e) (λ e. absurd (let w : true ≡ false = sym (ap is_none_open (f.none_yet e)) ∙ h in cc))
 
-pub end_taken : (l new : Lines) (n : Nesting) (item : Item) (t : Tag) (told : TagEffect) → Follows l n → item.token ≡ tag t → t.closing ≡ true → Ends l t told new → Taken l n item told new
+pub end_taken : (l new : Lines) (n : Nesting) (item : Item) (t : Tag) (told : TagEffect) → Follows l n → item.token ≡ tag t → t.closing ≡ true → EndTagEnds l t told new → Taken l n item told new
 end_taken l new n item t told f is_tag is_end b =
-    let ls : Levels = kept (ends_by true t.name) l.levels in
+    let ls : Levels = kept_levels (ends_by true t.name) l.levels in
     let line : Line = after_end l.syntax t.name n.line in
     let are : AreLevels l.syntax ls line = end_kept l.syntax t.name l.levels n.line f.levels_are in
     let above : AreLevels l.syntax (drop 1 ls) (line_above line) = above_levels l.syntax ls line are in
@@ -220,7 +220,7 @@ end_taken l new n item t told f is_tag is_end b =
       drops_is = over_drops (line_above line) ∙ sym b.drops;
       seen = λ signs.
           end_seen l.syntax t.name l.levels n.line signs (finishes ∷ []) f.levels_are
-          ∙ (end_shows t.name ls (signs ++ finishing (ended (ends_by true t.name) l.levels)) (own_tag item) b.named
+          ∙ (end_shows t.name ls (signs ++ finishing (ended_count (ends_by true t.name) l.levels)) (own_tag item) b.named
           ∙ (ap (λ k. record { flags = flags_of (drop 1 ls); signs = (signs ++ finishing k) ++ own_signs (own_of_end ls) (own_tag item) }) (sym b.ends)
           ∙ (ap (λ o. record { flags = flags_of (drop 1 ls); signs = (signs ++ finishing told.ends) ++ own_signs o (own_tag item) }) (sym b.own)
           ∙ ap (λ (x : Lines). record { flags = flags_of x.levels; signs = (signs ++ finishing told.ends) ++ own_signs told.own (own_tag item) }) (sym b.becomes))));

@@ -1,5 +1,5 @@
 -- Before each start tag that is shown stands the front of a page.
-use Rattle.rx_nest.proofs.Common.{hides, Nesting, ◌&&◌, ◌||◌, ◌==◌, not, nat_le, if◌then◌else◌, ◌⊎◌, greater_than_sign, less_than_sign, ampersand, Chars, by_test, split, Syntax, More, Char, Bad, answer_of, Entry, byte_order_mark, line_feed, carriage_return, as_line_end, StartTag, Tag, Token, tag, has_references, is_text, start_of, values, Item, is_literal, Line, inside_of, Utf8Step, Content, Fault, Kind, NotUtf8, PageTooLong, Unended, Limits, IsFront, Verdict, goes_on, whole, ended, refused, verdict, at_first, Spot, spot_of, Scanning, starts_at, Scanned, first_of, token_at, is_doctype, item_of, is_too_long, told_first, with_item, after_token, read_answer, read_byte, Progress, Reading, steps_on, no_step, nested_items, page_byte_on, telling, page_on, page_read, nothing_read, end_of, may_end, fault_in, is_none_left, found_fault, page_append, IsKept, is_kept, read_size, item_first, item_last, token_of_item, take-append-le, ◌≡◌, ◌∙◌, ℕ, ◌+◌, ◌<◌, ◌≤◌, Bool, true, false, List, [], ◌∷◌, ◌++◌, map, refl, sym, ap, subst, length, length-append, append_assoc, append-nil, Option, Some, Result, Ok, Err, arith, take, inl, inr, ⊎_elim, faults_follow_fronts, Sign, begun, said, finished, Flags, Sight, is_hidden, see, sees, nothing_seen, Way, IsAtTag, IsAtOne, IsRefusal}
+use Rattle.rx_nest.proofs.Common.{hides, Nesting, ◌&&◌, ◌||◌, ◌==◌, not, nat_le, if◌then◌else◌, ◌⊎◌, greater_than_sign, less_than_sign, ampersand, Chars, by_test, split, Syntax, More, Char, Bad, answer_of, PlacedCharacter, byte_order_mark, line_feed, carriage_return, as_line_end, StartTag, Tag, Token, tag, has_references, is_text, start_tag_of, values, Item, is_literal, Line, inside_of, Utf8Step, Content, Fault, Kind, NotUtf8, PageTooLong, Unended, Limits, IsPageFront, Verdict, goes_on, whole, ended, refused, verdict, first_verdict, Spot, spot_of, Scanning, starts_at, Scanned, first_of, token_at, is_doctype, item_of_run, is_too_long, told_first, with_item, after_token, read_answer, read_byte, Progress, PageReading, steps_on, no_step, nested_items, page_byte_on, telling, page_on, page_read, no_progress, page_ended, page_may_end, fault_in, is_none_left, found_fault, page_append, IsKept, is_kept, read_size, item_first, item_last, token_of_item, take-append-le, ◌≡◌, ◌∙◌, ℕ, ◌+◌, ◌<◌, ◌≤◌, Bool, true, false, List, [], ◌∷◌, ◌++◌, map, refl, sym, ap, subst, length, length-append, append_assoc, append-nil, Option, Some, Result, Ok, Err, arith, take, inl, inr, ⊎_elim, faults_follow_fronts, Sign, begun, said, finished, Flags, Sight, is_hidden, see, sees, nothing_seen, Way, IsAtTag, IsAtOne, IsRefusal}
 use Rattle.rx_nest.proofs.PageWalks.{AllOf, GoesOn, Held, Sound, Tagged, all_append, all_weaker, held_goes, page_sound, steps_hold, tagged}
 use Rattle.rx_nest.proofs.TextSteps.{byte_goes}
 use Rattle.rx_pages.specs.Nesting.{Event, begins, says, finishes, Step}
@@ -13,7 +13,7 @@ pub record TagAt (n at : ℕ) (t : StartTag) : Type 0 where
 
 -- the tags among the tokens are such
 abbrev pub TagIs : (StartTag → Type 0) → Item → Type 0
-TagIs Such item = (t : Tag) → item.token ≡ tag t → Such (start_of item t)
+TagIs Such item = (t : Tag) → item.token ≡ tag t → Such (start_tag_of item t)
 
 abbrev pub AllTags : (StartTag → Type 0) → List Item → Type 0
 AllTags Such items = AllOf (TagIs Such) items
@@ -32,22 +32,22 @@ abbrev pub Where : Scanned → Type 0
 Where r = HasNoTag r.items ⊎ ((r.next.run ≡ []) × (r.next.held ≡ []))
 
 -- what is pending begins before the next byte
-abbrev pub Fits : List Entry → ℕ → Type 0
+abbrev pub Fits : List PlacedCharacter → ℕ → Type 0
 Fits [] at = Unit {0}
 Fits (entry ∷ run) at = entry.first ≤ at
 
-fits_more : (run : List Entry) (at : ℕ) (entry : Entry) → Fits run at → entry.first ≤ at + 1 → Fits (run ++ entry ∷ []) (at + 1)
+fits_more : (run : List PlacedCharacter) (at : ℕ) (entry : PlacedCharacter) → Fits run at → entry.first ≤ at + 1 → Fits (run ++ entry ∷ []) (at + 1)
 fits_more [] at entry h l = l
 fits_more (e ∷ run) at entry h l = omega (arith, h)
 
-fits_on : (run : List Entry) (at : ℕ) → Fits run at → Fits run (at + 1)
+fits_on : (run : List PlacedCharacter) (at : ℕ) → Fits run at → Fits run (at + 1)
 fits_on [] at h = tt
 fits_on (e ∷ run) at h = omega (arith, h)
 
 pub token_fits : (s : Scanning) → Fits s.run s.at → token_at s ≤ s.at
 token_fits s h = by s.run h
   where
-    by : (run : List Entry) → Fits run s.at → first_of run (starts_at s) ≤ s.at
+    by : (run : List PlacedCharacter) → Fits run s.at → first_of run (starts_at s) ≤ s.at
     by [] k = omega arith
     by (e ∷ run) k = k
 
@@ -68,21 +68,21 @@ abbrev IsNoTag : Verdict → Type 0
 IsNoTag (whole token) = (t : Tag) → token ≡ tag t → ⊥
 IsNoTag other = Unit {0}
 
-first_no_tag : (inside : Content) (c : ℕ) → IsNoTag (at_first inside c)
+first_no_tag : (inside : Content) (c : ℕ) → IsNoTag (first_verdict inside c)
 first_no_tag inside c =
     split IsNoTag (c == less_than_sign || (c == ampersand && has_references inside)) _ _ (λ e. tt)
     (λ e. split IsNoTag (is_text inside c) _ _ (λ d. λ t k. cc) (λ d. tt))
 
 module _ (syntax : Syntax) (limits : Limits) (spot : Spot) (s : Scanning) where
-  abbrev entered : ℕ → Entry
+  abbrev entered : ℕ → PlacedCharacter
   entered value = record { value = value; first = starts_at s; last = s.at }
 
   first_tags : (t : Scanning) (after_return : Bool) (value : ℕ) (v : Verdict) → t.at ≡ s.at → (Fits s.run s.at → Fits t.run t.at) → ((token : Token) → v ≡ whole token → (u : Tag) → token ≡ tag u → first_of t.run (starts_at s) ≡ token_at s)
       → After s (told_first syntax limits spot after_return (entered value) t v)
   first_tags t after_return value goes_on a f h = record { tags = tt; fits = λ k. fits_more t.run t.at (entered value) (f k) (omega (arith, a)); settles = inl tt }
   first_tags t after_return value (whole token) a f h =
-      let item : Item = item_of spot.inside token (t.run ++ entered value ∷ []) in
-      let at : ((u : Tag) → item.token ≡ tag u → TagAt (token_at s) s.at (start_of item u)) =
+      let item : Item = item_of_run spot.inside token (t.run ++ entered value ∷ []) in
+      let at : ((u : Tag) → item.token ≡ tag u → TagAt (token_at s) s.at (start_tag_of item u)) =
       λ u e. record {
         begins_at = item_first spot.inside token t.run (entered value) ∙ h token refl u (sym (token_of_item spot.inside token (t.run ++ entered value ∷ [])) ∙ e);
         ends_at = item_last spot.inside token t.run (entered value);
@@ -102,7 +102,7 @@ module _ (syntax : Syntax) (limits : Limits) (spot : Spot) (s : Scanning) where
 
   told_tags : (after_return : Bool) (value : ℕ) (v : Verdict) → verdict syntax spot.inside (values s.run) value ≡ v → After s (reader.told syntax limits spot after_return (entered value) s v)
   told_tags after_return value (ended token) v =
-      with_tags (item_of spot.inside token s.run) (told_first syntax limits spot after_return (entered value) (after_token syntax limits spot s) (verdict syntax spot.inside [] value))
+      with_tags (item_of_run spot.inside token s.run) (told_first syntax limits spot after_return (entered value) (after_token syntax limits spot s) (verdict syntax spot.inside [] value))
       (subst IsKept (sym (token_of_item spot.inside token s.run)) (ended_kept syntax spot.inside (values s.run) value token v))
       (first_tags (after_token syntax limits spot s) after_return value (verdict syntax spot.inside [] value) refl (λ k. tt)
       (λ other k u w. absurd ((subst IsNoTag k (first_no_tag spot.inside value)) u w)))
@@ -201,7 +201,7 @@ module _ (Such : StartTag → Type 0) (syntax : Syntax) (limits : Limits) where
   pub such_tagged : (item : Item) → TagIs Such item → Tagged syntax limits (Held syntax limits BeginsSuch) item
   such_tagged item such = tagged syntax limits BeginsSuch item (λ t e. record {
     finish = λ u line events h. begin_append Such events (finishes ∷ []) h (tt, tt);
-    begin = λ b line events some none l h. begin_append Such events (begins (start_of item t) (hides (inside_of syntax line) t) ∷ []) h (such t e, tt);
+    begin = λ b line events some none l h. begin_append Such events (begins (start_tag_of item t) (hides (inside_of syntax line) t) ∷ []) h (such t e, tt);
   })
 
   pub such_go : GoesOn syntax limits (Held syntax limits BeginsSuch)
@@ -214,19 +214,19 @@ module _ (Such : StartTag → Type 0) (syntax : Syntax) (limits : Limits) where
 module _ (syntax : Syntax) (limits : Limits) where
   -- the bytes up to an offset are the front of a page
   abbrev IsUpTo : List ℕ → ℕ → Type 0
-  IsUpTo bytes n = (n ≤ length bytes) × IsFront syntax limits (take n bytes)
+  IsUpTo bytes n = (n ≤ length bytes) × IsPageFront syntax limits (take n bytes)
 
   -- and the offset is that of one of them
   abbrev pub IsBefore : List ℕ → ℕ → Type 0
-  IsBefore bytes n = (n < length bytes) × IsFront syntax limits (take n bytes)
+  IsBefore bytes n = (n < length bytes) × IsPageFront syntax limits (take n bytes)
 
   before_more : (bytes more : List ℕ) (n : ℕ) → IsBefore bytes n → IsBefore (bytes ++ more) n
-  before_more bytes more n h = (omega (arith, h.0, length-append bytes more), subst (IsFront syntax limits) (sym (take-append-le n bytes more (omega (arith, h.0)))) h.1)
+  before_more bytes more n h = (omega (arith, h.0, length-append bytes more), subst (IsPageFront syntax limits) (sym (take-append-le n bytes more (omega (arith, h.0)))) h.1)
 
   before_byte : (bytes : List ℕ) (byte n : ℕ) → IsUpTo bytes n → IsBefore (bytes ++ byte ∷ []) n
-  before_byte bytes byte n h = (omega (arith, h.0, length-append bytes (byte ∷ [])), subst (IsFront syntax limits) (sym (take-append-le n bytes (byte ∷ []) h.0)) h.1)
+  before_byte bytes byte n h = (omega (arith, h.0, length-append bytes (byte ∷ [])), subst (IsPageFront syntax limits) (sym (take-append-le n bytes (byte ∷ []) h.0)) h.1)
 
-  none_held : (r : Reading) → may_end r ≡ true → r.scan.held ≡ []
+  none_held : (r : PageReading) → page_may_end r ≡ true → r.scan.held ≡ []
   none_held r = by r.scan.held
     where
       by : (held : List ℕ) → (is_none_left held && is_none_left r.scan.run && reader.is_over r.nest.phase) ≡ true → held ≡ []
@@ -247,25 +247,25 @@ module _ (syntax : Syntax) (limits : Limits) where
 
   -- what was read before the next token is the front of a page: the next byte may have a fault, or the page may end
   front_at : (bytes : List ℕ) (p : Progress) → page_read syntax limits bytes ≡ Ok p → Fits p.now.scan.run p.now.scan.at → IsUpTo bytes (token_at p.now.scan)
-  front_at bytes p r f = by_test (may_end p.now) over unended
+  front_at bytes p r f = by_test (page_may_end p.now) over unended
     where
       small : token_at p.now.scan ≤ length bytes
       small = let l = token_fits p.now.scan f in omega (arith, l, (read_size syntax limits bytes p r).0)
 
-      unended : may_end p.now ≡ false → IsUpTo bytes (token_at p.now.scan)
+      unended : page_may_end p.now ≡ false → IsUpTo bytes (token_at p.now.scan)
       unended e = (
         small,
         faults_follow_fronts syntax limits bytes (fault_in p.now.scan Unended)
-            (found_fault syntax limits bytes (fault_in p.now.scan Unended) (ap end_of r ∙ ap (λ b. if b then Ok p else Err (fault_in p.now.scan Unended)) e)),
+            (found_fault syntax limits bytes (fault_in p.now.scan Unended) (ap page_ended r ∙ ap (λ b. if b then Ok p else Err (fault_in p.now.scan Unended)) e)),
       )
 
-      over : may_end p.now ≡ true → IsUpTo bytes (token_at p.now.scan)
+      over : page_may_end p.now ≡ true → IsUpTo bytes (token_at p.now.scan)
       over e =
           let fails = fails_next p (none_held p.now e) in
           let read : page_read syntax limits (bytes ++ 255 ∷ []) ≡ Err (fault_in p.now.scan fails.0) =
-          page_append syntax limits (spot_of syntax p.now.nest) (Ok nothing_read) bytes (255 ∷ []) ∙ (ap (λ x. page_byte_on syntax limits x 255) r ∙ fails.1) in
-          let front = faults_follow_fronts syntax limits (bytes ++ 255 ∷ []) (fault_in p.now.scan fails.0) (found_fault syntax limits (bytes ++ 255 ∷ []) (fault_in p.now.scan fails.0) (ap end_of read)) in
-          (small, subst (IsFront syntax limits) (take-append-le (token_at p.now.scan) bytes (255 ∷ []) small) front)
+          page_append syntax limits (spot_of syntax p.now.nest) (Ok no_progress) bytes (255 ∷ []) ∙ (ap (λ x. page_byte_on syntax limits x 255) r ∙ fails.1) in
+          let front = faults_follow_fronts syntax limits (bytes ++ 255 ∷ []) (fault_in p.now.scan fails.0) (found_fault syntax limits (bytes ++ 255 ∷ []) (fault_in p.now.scan fails.0) (ap page_ended read)) in
+          (small, subst (IsPageFront syntax limits) (take-append-le (token_at p.now.scan) bytes (255 ∷ []) small) front)
 
   -- after some bytes each tag that was told stands behind the front of a page
   abbrev Behind : List ℕ → Result Progress Fault → Type 0
@@ -279,7 +279,7 @@ module _ (syntax : Syntax) (limits : Limits) where
       (λ scanned step e k is.
       let after = subst (After p.now.scan) e (byte_tags syntax limits (spot_of syntax p.now.nest) p.now.scan byte) in
       let such = items_such (TagAt (token_at p.now.scan) p.now.scan.at) syntax limits p.now.nest scanned.items step (page_sound syntax limits bytes p h.0) after.tags k in (
-        page_append syntax limits (spot_of syntax p.now.nest) (Ok nothing_read) bytes (byte ∷ []) ∙ (ap (λ x. page_byte_on syntax limits x byte) h.0 ∙ is),
+        page_append syntax limits (spot_of syntax p.now.nest) (Ok no_progress) bytes (byte ∷ []) ∙ (ap (λ x. page_byte_on syntax limits x byte) h.0 ∙ is),
         after.fits h.1,
         begin_append (λ t. IsBefore (bytes ++ byte ∷ []) t.token) p.told step.events
             (begin_such (λ t. IsBefore bytes t.token) (λ t. IsBefore (bytes ++ byte ∷ []) t.token) (λ t. before_more bytes (byte ∷ []) t.token) p.told h.2)
@@ -294,7 +294,7 @@ module _ (syntax : Syntax) (limits : Limits) where
       (all_behind more (bytes ++ byte ∷ []) (page_byte_on syntax limits x byte) (one_behind bytes byte x h))
 
   told_behind : (bytes : List ℕ) (p : Progress) → page_read syntax limits bytes ≡ Ok p → AllBegin (λ t. IsBefore bytes t.token) p.told
-  told_behind bytes p r = (subst (Behind bytes) r (all_behind bytes [] (Ok nothing_read) (refl, tt, tt))).2
+  told_behind bytes p r = (subst (Behind bytes) r (all_behind bytes [] (Ok no_progress) (refl, tt, tt))).2
 
 module _ (way : Way) (law : IsRefusal way.refused) where
   pub token_before : (bytes : List ℕ) (p : Progress) (fault : Fault) → page_read way.syntax way.limits bytes ≡ Ok p → way.refused (sees nothing_seen p.told).signs ≡ Some fault → IsBefore way.syntax way.limits bytes fault.token
@@ -303,5 +303,5 @@ module _ (way : Way) (law : IsRefusal way.refused) where
       subst (IsBefore way.syntax way.limits bytes) (sym at.2.token) at.1
 
   pub refused_fronts : (bytes more : List ℕ) (p : Progress) (fault : Fault) → page_read way.syntax way.limits bytes ≡ Ok p → way.refused (sees nothing_seen p.told).signs ≡ Some fault
-      → IsFront way.syntax way.limits (take fault.token (bytes ++ more))
+      → IsPageFront way.syntax way.limits (take fault.token (bytes ++ more))
   refused_fronts bytes more p fault r e = (before_more way.syntax way.limits bytes more fault.token (token_before bytes p fault r e)).1

@@ -6,9 +6,9 @@ use Rattle.rx_nest.specs.declared.tree_tokens.PendingEvents.{PendingEvents}
 use Rattle.rx_nest.specs.declared.lines.TagAction.{TagAction}
 use Rattle.rx_nest.specs.declared.lines.TagAction.TheVariants as own
 use Rattle.rx_nest.specs.Nests as nests
-use Rattle.rx_nest.specs.Nests.{Nested, Stepped, StepGives, event_signs, is_more, left, own_left}
+use Rattle.rx_nest.specs.Nests.{Nested, NestStepped, NestStepGives, event_signs, is_more, left, own_left}
 use Rattle.rx_nest.specs.declared.turns.Turn.TheVariants as turn
-use Rattle.rx_nest.specs.Readings.{Goes, Somewhere, OwesNone, TurnGives, PieceGives, Whole, Unfinished}
+use Rattle.rx_nest.specs.Readings.{ListenerStands, Somewhere, OwesNone, TurnGives, PieceGives, Whole, EndsWithinPage}
 use Rattle.rx_nest.proofs.Firsts.{meaning_first, meaning_within, no_meaning}
 use Rattle.rx_nest.proofs.Meanings.{meant, read_as_meant}
 
@@ -25,13 +25,13 @@ paid_up owed t h = by owed.ends owed.own h
 module _ {L : Type 0} (way : Way) (knows : L → List Sign → Type 0) (law : IsRefusal way.refused) where
   -- one turn
 
-  module _ (bytes piece : List ℕ) (signs : List Sign) (n : ℕ) (e : Event) (nest : Nested) (s : Stepped way.syntax way.limits bytes signs piece n e nest) where
+  module _ (bytes piece : List ℕ) (signs : List Sign) (n : ℕ) (e : Event) (nest : Nested) (s : NestStepped way.syntax way.limits bytes signs piece n e nest) where
     pub took : (listener : L) → knows listener (signs ++ event_signs e) → TurnGives way knows bytes piece (Ok (turn.Took n)) nest listener
     took listener k = record { signs = signs ++ event_signs e; shown = s.stands; known = k }
 
     pub done : (listener : L) → knows listener (signs ++ event_signs e) → is_more e ≡ true → left nest.owed ≡ 0 → TurnGives way knows bytes piece (Ok turn.Done) nest listener
     done listener k m p = (
-      subst (λ l. Goes way knows nest listener (bytes ++ l)) (ap (λ k. take k piece) (s.all m) ∙ take_all (length piece) piece (omega arith)) (took listener k),
+      subst (λ l. ListenerStands way knows nest listener (bytes ++ l)) (ap (λ k. take k piece) (s.all m) ∙ take_all (length piece) piece (omega arith)) (took listener k),
       paid_up nest.owed (nests.last_tag nest.scan) p,
     )
 
@@ -62,8 +62,8 @@ module _ {L : Type 0} (way : Way) (knows : L → List Sign → Type 0) (law : Is
     heard_stop (stop.Fault fault) listener h = heard_fault fault h
     heard_stop stop.NoMemory listener h = tt
 
-  pub step_stop : (bytes piece : List ℕ) (nest new : Nested) (listener : L) (g : Goes way knows nest listener bytes) → way.refused g.signs ≡ None → (why : Stop)
-      → StepGives way.syntax way.limits bytes g.signs piece (Err why) new → StopGives way (bytes ++ piece) why
+  pub step_stop : (bytes piece : List ℕ) (nest new : Nested) (listener : L) (g : ListenerStands way knows nest listener bytes) → way.refused g.signs ≡ None → (why : Stop)
+      → NestStepGives way.syntax way.limits bytes g.signs piece (Err why) new → StopGives way (bytes ++ piece) why
   step_stop bytes piece nest new listener g a (stop.Fault fault) s =
       record {
         stays = λ rest. for_form (s.0.stays rest)
@@ -99,36 +99,36 @@ module _ {L : Type 0} (way : Way) (knows : L → List Sign → Type 0) where
   whole : (bytes piece rest front : List ℕ) → piece ≡ front ++ rest → (bytes ++ front) ++ rest ≡ bytes ++ piece
   whole bytes piece rest front e = append_assoc bytes front rest ∙ ap (λ x. bytes ++ x) (sym e)
 
-  pub taken_whole : (bytes piece rest : List ℕ) (nest new : Nested) (listener next : L) (t : Taken (Goes way knows) bytes piece rest nest listener)
+  pub taken_whole : (bytes piece rest : List ℕ) (nest new : Nested) (listener next : L) (t : Taken (ListenerStands way knows) bytes piece rest nest listener)
       → TurnGives way knows (bytes ++ t.front) rest (Ok turn.Done) new next → PieceGives way knows bytes piece (Ok tt) new next
-  taken_whole bytes piece rest nest new listener next t g = (subst (λ b. Goes way knows new next b) (whole bytes piece rest t.front t.are) g.0, g.1)
+  taken_whole bytes piece rest nest new listener next t g = (subst (λ b. ListenerStands way knows new next b) (whole bytes piece rest t.front t.are) g.0, g.1)
 
-  pub taken_stop : (bytes piece rest : List ℕ) (nest new : Nested) (listener next : L) (why : Stop) (t : Taken (Goes way knows) bytes piece rest nest listener)
+  pub taken_stop : (bytes piece rest : List ℕ) (nest new : Nested) (listener next : L) (why : Stop) (t : Taken (ListenerStands way knows) bytes piece rest nest listener)
       → TurnGives way knows (bytes ++ t.front) rest (Err why) new next → PieceGives way knows bytes piece (Err why) new next
   taken_stop bytes piece rest nest new listener next why t g = subst (λ b. StopGives way b why) (whole bytes piece rest t.front t.are) g
 
   -- the page's end
 
-  pub ends_whole : (nest : Nested) (listener : L) (bytes : List ℕ) (g : Goes way knows nest listener bytes) → way.refused g.signs ≡ None → OwesNone nest
-      → nests.Ended way.syntax way.limits bytes g.signs (nests.owed_signs nest.owed (nests.last_tag nest.scan)) → Whole way knows bytes listener
+  pub ends_whole : (nest : Nested) (listener : L) (bytes : List ℕ) (g : ListenerStands way knows nest listener bytes) → way.refused g.signs ≡ None → OwesNone nest
+      → nests.NestEnded way.syntax way.limits bytes g.signs (nests.owed_signs nest.owed (nests.last_tag nest.scan)) → Whole way knows bytes listener
   ends_whole nest listener bytes g a none e =
       let shown : g.signs ≡ signs_of e.tree = sym (append-nil g.signs) ∙ (ap (λ x. g.signs ++ x) (sym none) ∙ e.shown) in
       record { tree = e.tree; page = e.page; accepted = subst (λ x. way.refused x ≡ None) shown a; known = subst (knows listener) shown g.known }
 
-pub end_stops : (way : Way) (bytes : List ℕ) (signs : List Sign) (old new : Nested) (why : Stop) → nests.EndGives way.syntax way.limits bytes signs old (Err why) new → Unfinished way bytes why
+pub end_stops : (way : Way) (bytes : List ℕ) (signs : List Sign) (old new : Nested) (why : Stop) → nests.NestEndGives way.syntax way.limits bytes signs old (Err why) new → EndsWithinPage way bytes why
 end_stops way bytes signs old new (stop.Fault fault) g = g
 end_stops way bytes signs old new stop.NoMemory g = g
 
 -- what was read stays so
 module _ {S L : Type 0} (way : S → Way) (knows : S → L → List Sign → Type 0) where
   abbrev pub GoesOn : Nested → L → Nested → L → Type 0
-  GoesOn nest listener new next = (setting : S) (bytes : List ℕ) → Goes (way setting) (knows setting) nest listener bytes → Goes (way setting) (knows setting) new next bytes
+  GoesOn nest listener new next = (setting : S) (bytes : List ℕ) → ListenerStands (way setting) (knows setting) nest listener bytes → ListenerStands (way setting) (knows setting) new next bytes
 
   pub somewhere_on : (nest new : Nested) (listener next : L) → GoesOn nest listener new next → Somewhere way knows nest listener → Somewhere way knows new next
   somewhere_on nest new listener next on s = record { setting = s.setting; bytes = s.bytes; goes = on s.setting s.bytes s.goes }
 
   abbrev pub TakenBy : Nested → L → List ℕ → List ℕ → Nested → L → Type 0
-  TakenBy nest listener piece rest new next = (setting : S) (bytes : List ℕ) → Goes (way setting) (knows setting) nest listener bytes → Taken (Goes (way setting) (knows setting)) bytes piece rest new next
+  TakenBy nest listener piece rest new next = (setting : S) (bytes : List ℕ) → ListenerStands (way setting) (knows setting) nest listener bytes → Taken (ListenerStands (way setting) (knows setting)) bytes piece rest new next
 
   pub somewhere_taken : (nest new : Nested) (listener next : L) (piece rest : List ℕ) → TakenBy nest listener piece rest new next → Somewhere way knows nest listener → Somewhere way knows new next
   somewhere_taken nest new listener next piece rest on s =

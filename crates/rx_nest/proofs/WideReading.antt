@@ -1,5 +1,5 @@
 -- Bytes that are read are read alike under wider limits of tag and page.
-use Rattle.rx_pages.proofs.Common.{◌≡◌, ◌∙◌, ℕ, ◌+◌, ◌≤◌, Bool, true, false, cond, List, [], ◌∷◌, ◌++◌, refl, sym, ap, subst, Result, Ok, Err, arith, nat_le, nat_tests, ◌&&◌, ◌||◌, ◌==◌, not, Syntax, More, Char, Bad, answer_of, Entry, byte_order_mark, line_feed, carriage_return, as_line_end, values, Item, is_known_tag, Utf8Step, Fault, Kind, PageTooLong, TagTooLong, Limits, Verdict, goes_on, whole, ended, refused, verdict, Spot, spot_of, Scanning, starts_at, Scanned, first_of, token_at, item_of, is_too_long, told_first, with_item, after_token, read_entry, read_char, read_answer, read_byte, Progress, nested_items, telling, page_byte_on, page_on, page_read, nothing_read, fault_stays}
+use Rattle.rx_pages.proofs.Common.{◌≡◌, ◌∙◌, ℕ, ◌+◌, ◌≤◌, Bool, true, false, cond, List, [], ◌∷◌, ◌++◌, refl, sym, ap, subst, Result, Ok, Err, arith, nat_le, nat_tests, ◌&&◌, ◌||◌, ◌==◌, not, Syntax, More, Char, Bad, answer_of, PlacedCharacter, byte_order_mark, line_feed, carriage_return, as_line_end, values, Item, is_known_tag, Utf8Step, Fault, Kind, PageTooLong, TagTooLong, Limits, Verdict, goes_on, whole, ended, refused, verdict, Spot, spot_of, Scanning, starts_at, Scanned, first_of, token_at, item_of_run, is_too_long, told_first, with_item, after_token, read_entry, read_char, read_answer, read_byte, Progress, nested_items, telling, page_byte_on, page_on, page_read, no_progress, fault_stays}
 use Rattle.rx_pages.specs.PageReader as reader
 
 -- what is read is the same
@@ -28,10 +28,10 @@ not_longer a b at l e = grind (arith, nat_tests)
 
 module _ (syntax : Syntax) (limits wide : Limits) (deep : wide.depth ≡ limits.depth) (tag : limits.tag ≤ wide.tag) (page : limits.page ≤ wide.page) where
   module _ (spot : Spot) where
-    short : (run : List Entry) (token at : ℕ) → is_too_long syntax limits spot run token at ≡ false → is_too_long syntax wide spot run token at ≡ false
+    short : (run : List PlacedCharacter) (token at : ℕ) → is_too_long syntax limits spot run token at ≡ false → is_too_long syntax wide spot run token at ≡ false
     short run token at e = fewer (is_known_tag syntax spot.inside (values run)) (token + limits.tag) (token + wide.tag) at (omega (arith, tag)) e
 
-    first_is : (s : Scanning) (after_return : Bool) (entry : Entry) (v : Verdict) → told_first syntax wide spot after_return entry s v ≡ told_first syntax limits spot after_return entry s v
+    first_is : (s : Scanning) (after_return : Bool) (entry : PlacedCharacter) (v : Verdict) → told_first syntax wide spot after_return entry s v ≡ told_first syntax limits spot after_return entry s v
     first_is s after_return entry goes_on = refl
     first_is s after_return entry _ = refl
 
@@ -39,15 +39,15 @@ module _ (syntax : Syntax) (limits wide : Limits) (deep : wide.depth ≡ limits.
     with_is item (Ok r) = refl
     with_is item (Err kind) = refl
 
-    told_is : (s : Scanning) (after_return : Bool) (entry : Entry) (v : Verdict) → reader.told syntax wide spot after_return entry s v ≡ reader.told syntax limits spot after_return entry s v
+    told_is : (s : Scanning) (after_return : Bool) (entry : PlacedCharacter) (v : Verdict) → reader.told syntax wide spot after_return entry s v ≡ reader.told syntax limits spot after_return entry s v
     told_is s after_return entry goes_on = first_is s after_return entry goes_on
     told_is s after_return entry (whole token) = first_is s after_return entry (whole token)
     told_is s after_return entry (ended token) =
-        with_is (item_of spot.inside token s.run) (told_first syntax wide spot after_return entry (after_token syntax wide spot s) (verdict syntax spot.inside [] entry.value))
-        ∙ ap (λ x. with_item syntax limits spot (item_of spot.inside token s.run) x) (first_is (after_token syntax limits spot s) after_return entry (verdict syntax spot.inside [] entry.value))
+        with_is (item_of_run spot.inside token s.run) (told_first syntax wide spot after_return entry (after_token syntax wide spot s) (verdict syntax spot.inside [] entry.value))
+        ∙ ap (λ x. with_item syntax limits spot (item_of_run spot.inside token s.run) x) (first_is (after_token syntax limits spot s) after_return entry (verdict syntax spot.inside [] entry.value))
     told_is s after_return entry (refused kind) = refl
 
-    entry_same : (s : Scanning) (after_return : Bool) (entry : Entry) → Same (read_entry syntax limits spot after_return entry s) (read_entry syntax wide spot after_return entry s)
+    entry_same : (s : Scanning) (after_return : Bool) (entry : PlacedCharacter) → Same (read_entry syntax limits spot after_return entry s) (read_entry syntax wide spot after_return entry s)
     entry_same s after_return entry =
         bound (is_too_long syntax limits spot (s.run ++ entry ∷ []) (first_of s.run entry.first) entry.last) (is_too_long syntax wide spot (s.run ++ entry ∷ []) (first_of s.run entry.first) entry.last) TagTooLong
         (reader.told syntax limits spot after_return entry s (verdict syntax spot.inside (values s.run) entry.value)) (reader.told syntax wide spot after_return entry s (verdict syntax spot.inside (values s.run) entry.value))
@@ -88,4 +88,4 @@ module _ (syntax : Syntax) (limits wide : Limits) (deep : wide.depth ≡ limits.
       by on (Err fault) k w = absurd (let z : Err fault ≡ Ok q = sym (fault_stays syntax limits fault bytes) ∙ w in cc)
 
   pub read_wide : (bytes : List ℕ) (q : Progress) → page_read syntax limits bytes ≡ Ok q → page_read syntax wide bytes ≡ Ok q
-  read_wide bytes q e = bytes_same bytes nothing_read q e
+  read_wide bytes q e = bytes_same bytes no_progress q e

@@ -3,7 +3,7 @@ use Rattle.std.specs.Prelude.{◌≡◌, ◌≤◌, ◌+◌, ℕ, List, ◌++◌
 use Rattle.rx_grammar.specs.Common.{Syntax, Page, FaultAt, Tree, Line, Phase, Begun}
 use Rattle.rx_grammar.specs.declared.faults.Fault.{Fault}
 use Rattle.rx_grammar.specs.declared.limits.Limits.{Limits}
-use Rattle.rx_pages.specs.Closings.{closed, IsWide, IsFront}
+use Rattle.rx_pages.specs.Closings.{closed, IsWide, IsPageFront}
 use Rattle.rx_grammar.specs.declared.stops.Stop.{Stop}
 use Rattle.rx_grammar.specs.declared.stops.Stop.TheVariants as stop
 use Rattle.rx_nest.specs.Signs.{Sign, signs_of}
@@ -39,18 +39,18 @@ pub record IsAcceptedFront (way : Way) (bytes : List ℕ) : Type 0 where
 -- token are the front of one without such a tag.
 pub data PlaceLaw (way : Way) (bytes : List ℕ) (fault : Fault) : Type 0 where
   of_form : FaultAt way.syntax way.limits bytes fault → BeginsNone way.syntax way.limits (take (fault.at + 1) bytes)
-      → IsFront way.syntax way.limits (take fault.token bytes) → PlaceLaw way bytes fault
+      → IsPageFront way.syntax way.limits (take fault.token bytes) → PlaceLaw way bytes fault
   of_meaning : MeaningAt way bytes fault → BeginsRefused way (take (fault.at + 1) bytes) fault
       → IsAcceptedFront way (take fault.token bytes) → PlaceLaw way bytes fault
 
 -- It lies in the piece that brought it.
-pub record Placed (way : Way) (bytes piece : List ℕ) (fault : Fault) : Type 0 where
+pub record LiesInPiece (way : Way) (bytes piece : List ℕ) (fault : Fault) : Type 0 where
   pub from : length bytes ≤ fault.at
   pub law : PlaceLaw way (bytes ++ piece) fault
 
 abbrev pub PlaceGives : Way → List ℕ → List ℕ → Result (Unit {0}) Stop → Type 0
 PlaceGives way bytes piece (Ok done) = Unit {0}
-PlaceGives way bytes piece (Err (stop.Fault fault)) = Placed way bytes piece fault
+PlaceGives way bytes piece (Err (stop.Fault fault)) = LiesInPiece way bytes piece fault
 PlaceGives way bytes piece (Err stop.NoMemory) = Unit {0}
 
 -- A fault that is answered has its place by that law, whatever bytes the reading stands for.

@@ -1,6 +1,6 @@
 -- The open elements that are kept are those of the page's tokens.
 use Rattle.std.specs.Prelude.{◌≡◌, Bool, false, List, [], ◌∷◌, map, if◌then◌else◌}
-use Rattle.rx_grammar.specs.Common.{Syntax, StartTag, Token, tag, Item, start_of, is_held, Line, inside_of, parent_of, Phase, before, within, after}
+use Rattle.rx_grammar.specs.Common.{Syntax, StartTag, Token, tag, Item, start_tag_of, is_held, Line, inside_of, parent_of, Phase, before, within, after}
 use Rattle.rx_pages.specs.Nesting.{Nesting}
 use Rattle.rx_nest.specs.declared.lines.TagAction.{TagAction}
 use Rattle.rx_nest.specs.declared.lines.TagAction.TheVariants.{Alone, Begin, Finish, Nothing}
@@ -42,7 +42,7 @@ own_signs Finish t = finished ∷ []
 
 -- the start tag of a token, where it is one
 abbrev pub tag_by : Item → Token → StartTag
-tag_by item (tag t) = start_of item t
+tag_by item (tag t) = start_tag_of item t
 tag_by item _ = record { name = []; attributes = []; slash = false; token = 0; at = 0 }
 
 abbrev pub own_tag : Item → StartTag

@@ -1,6 +1,6 @@
 -- The open elements, as they are kept: of each its name and what its ancestors make of it. The innermost stands first.
 use Rattle.std.specs.Prelude.{◌≡◌, ℕ, zero, suc, ◌+◌, Bool, false, not, ◌&&◌, List, [], ◌∷◌, Option, None, slice_index_or, take, option_map, if◌then◌else◌}
-use Rattle.rx_grammar.specs.Common.{Chars, same, is_among, row_of, Place, outside, is_html, names_of, has_row}
+use Rattle.rx_grammar.specs.Common.{Chars, same, is_among, row_of, Place, outside, is_html, names_listed, has_row}
 use Rattle.rx_nest.specs.declared.levels.Traits.{Traits}
 use Rattle.rx_nest.specs.Rows.{row_seen}
 
@@ -31,8 +31,8 @@ no_level = record { name = []; inside = outside; row = None; held = false; shown
 
 -- the first n of a list, the last of them first
 abbrev pub innermost_first : ℕ → List Level → Levels
-innermost_first zero kept = []
-innermost_first (suc n) kept = slice_index_or kept n no_level ∷ innermost_first n kept
+innermost_first zero kept_levels = []
+innermost_first (suc n) kept_levels = slice_index_or kept_levels n no_level ∷ innermost_first n kept_levels
 
 -- this is the innermost one
 abbrev pub IsTop : Level → Levels → Type 0
@@ -57,16 +57,16 @@ hidden_under (level ∷ above) = level.hides
 -- an element that a start tag of this name ends, or an end tag
 abbrev pub ends_by : Bool → Chars → Level → Bool
 ends_by closing name level =
-    if closing then has_row level.row && not (same level.name name) && not level.held else is_among (names_of level.row) name
+    if closing then has_row level.row && not (same level.name name) && not level.held else is_among (names_listed level.row) name
 
 -- the elements that stay open, and how many of the others stand in the tree
-abbrev pub kept : (Level → Bool) → Levels → Levels
-kept ends [] = []
-kept ends (level ∷ above) = if ends level then kept ends above else level ∷ above
+abbrev pub kept_levels : (Level → Bool) → Levels → Levels
+kept_levels ends [] = []
+kept_levels ends (level ∷ above) = if ends level then kept_levels ends above else level ∷ above
 
 abbrev pub one_if : Bool → ℕ
 one_if test = if test then 1 else 0
 
-abbrev pub ended : (Level → Bool) → Levels → ℕ
-ended ends [] = 0
-ended ends (level ∷ above) = if ends level then one_if level.shown + ended ends above else 0
+abbrev pub ended_count : (Level → Bool) → Levels → ℕ
+ended_count ends [] = 0
+ended_count ends (level ∷ above) = if ends level then one_if level.shown + ended_count ends above else 0

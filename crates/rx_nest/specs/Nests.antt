@@ -8,8 +8,8 @@ use Rattle.rx_grammar.specs.Tokens as tokens
 use Rattle.rx_reader.specs.TagReader.{parts_of}
 use Rattle.rx_pages.specs.Nesting as nesting
 use Rattle.rx_pages.specs.Nesting.{Nesting, content_at}
-use Rattle.rx_pages.specs.PageReader.{Scanning, Progress, Reading, scan_from, spot_of, page_read, end_of, may_lead}
-use Rattle.rx_pages.specs.Closings.{IsFront}
+use Rattle.rx_pages.specs.PageReader.{Scanning, Progress, PageReading, scan_from, spot_of, page_read, page_ended, may_lead}
+use Rattle.rx_pages.specs.Closings.{IsPageFront}
 use Rattle.rx_grammar.specs.declared.stops.Stop.{Stop}
 use Rattle.rx_grammar.specs.declared.stops.Stop.TheVariants as stop
 use Rattle.rx_tags.specs.declared.tags.Tag.{Tag}
@@ -53,24 +53,24 @@ tag_shown t = start_seen (tag_seen t) t.token t.at
 abbrev pub last_tag : Scanner → StartTag
 last_tag v = start_seen (parts_of v.reading.pending.tag.state) v.reading.place.token v.reading.end
 
-abbrev pub text_by : TokenKind → Scanner → Chars
-text_by what.Section v = v.reading.pending.run
-text_by _ v = v.reading.text.text
+abbrev pub token_text : TokenKind → Scanner → Chars
+token_text what.Section v = v.reading.pending.run
+token_text _ v = v.reading.text.text
 
 abbrev pub last_text : Scanner → Chars
-last_text v = text_by v.what v
+last_text v = token_text v.what v
 
-abbrev pub has_text : TokenKind → Bool
-has_text what.Text = true
-has_text what.Section = true
-has_text _ = false
+abbrev pub gives_text : TokenKind → Bool
+gives_text what.Text = true
+gives_text what.Section = true
+gives_text _ = false
 
 abbrev pub setting_of : Syntax → Limits → Nesting → Setting
 setting_of syntax limits n = record { syntax = syntax; limits = limits; inside = content_at syntax n; leads = may_lead n.phase; drops = n.drops }
 
 -- The scanner and the elements stand where these bytes lead, which tell these events.
 pub record At (syntax : Syntax) (limits : Limits) (bytes : List ℕ) (told : List nesting.Event) (v : Scanner) (line : Lines) : Type 0 where
-  pub now : Reading
+  pub now : PageReading
   pub read : page_read syntax limits bytes ≡ Ok (record { now = now; told = told })
   pub stands : scan.ScanStands v now.scan
   pub setting : v.reading.setting ≡ setting_of syntax limits now.nest
@@ -79,7 +79,7 @@ pub record At (syntax : Syntax) (limits : Limits) (bytes : List ℕ) (told : Lis
   pub depth_is : line.depth ≡ limits.depth
 
 -- they stand somewhere
-pub record Somewhere (v : Scanner) (line : Lines) : Type 0 where
+pub record StandsSomewhere (v : Scanner) (line : Lines) : Type 0 where
   pub syntax : Syntax
   pub limits : Limits
   pub bytes : List ℕ
@@ -108,7 +108,7 @@ begins_own _ = false
 abbrev pub Lends : TreeToken → Scanner → Type 0
 Lends tree_token.More v = Unit {0}
 Lends tree_token.Skipped v = Unit {0}
-Lends tree_token.Text v = (has_text v.what ≡ true) × (last_text v ≢ [])
+Lends tree_token.Text v = (gives_text v.what ≡ true) × (last_text v ≢ [])
 Lends (tree_token.Tag told) v = begins_own told.own ≡ true → LendsStart v
 
 abbrev pub is_tag_heard : TreeToken → Bool
@@ -175,20 +175,20 @@ abbrev pub NoneYet : Syntax → Limits → List ℕ → List ℕ → Type 0
 NoneYet syntax limits bytes more = Completes syntax limits bytes more false (λ s bytes items. items ≡ [])
 
 -- A byte of the piece decides the fault, and before it nothing is told.
-pub record Stops (syntax : Syntax) (limits : Limits) (bytes : List ℕ) (told : List nesting.Event) (piece : List ℕ) (fault : Fault) : Type 0 where
+pub record StopsInPiece (syntax : Syntax) (limits : Limits) (bytes : List ℕ) (told : List nesting.Event) (piece : List ℕ) (fault : Fault) : Type 0 where
   pub front : List ℕ
   pub byte : ℕ
   pub rest : List ℕ
   pub are : piece ≡ front ++ byte ∷ rest
-  pub now : Reading
+  pub now : PageReading
   pub read : page_read syntax limits (bytes ++ front) ≡ Ok (record { now = now; told = told })
   pub here : page_read syntax limits (bytes ++ (front ++ byte ∷ [])) ≡ Err fault
   pub before : NoneYet syntax limits bytes front
 
-abbrev pub ReadGives : Syntax → Limits → List ℕ → List nesting.Event → List ℕ → Lines → Result (ℕ × TreeToken) Stop → Scanner → Lines → Type 0
-ReadGives syntax limits bytes told piece old (Ok r) v new = Heeds syntax limits bytes told piece r.0 r.1 old v new
-ReadGives syntax limits bytes told piece old (Err (stop.Fault fault)) v new = Stops syntax limits bytes told piece fault
-ReadGives syntax limits bytes told piece old (Err stop.NoMemory) v new = Unit {0}
+abbrev pub NestReadGives : Syntax → Limits → List ℕ → List nesting.Event → List ℕ → Lines → Result (ℕ × TreeToken) Stop → Scanner → Lines → Type 0
+NestReadGives syntax limits bytes told piece old (Ok r) v new = Heeds syntax limits bytes told piece r.0 r.1 old v new
+NestReadGives syntax limits bytes told piece old (Err (stop.Fault fault)) v new = StopsInPiece syntax limits bytes told piece fault
+NestReadGives syntax limits bytes told piece old (Err stop.NoMemory) v new = Unit {0}
 
 -- a fault leaves the open elements as they were
 abbrev pub StaysAtFault : {A : Type 0} → Result A Stop → Lines → Lines → Type 0
@@ -223,8 +223,8 @@ pub record NestStands (syntax : Syntax) (limits : Limits) (v : Nested) (bytes : 
   pub unspent : v.out_of_memory ≡ false
 
 -- what each nest keeps
-abbrev pub Ready : Scanner → Lines → PendingEvents → Option Fault → Bool → Type 0
-Ready v line owed failed out_of_memory = failed ≡ None → out_of_memory ≡ false → Somewhere v line × (owes_begin owed.own ≡ true → LendsStart v)
+abbrev pub NestReady : Scanner → Lines → PendingEvents → Option Fault → Bool → Type 0
+NestReady v line owed failed out_of_memory = failed ≡ None → out_of_memory ≡ false → StandsSomewhere v line × (owes_begin owed.own ≡ true → LendsStart v)
 
 -- what was done shows
 abbrev pub did_signs : EventKind → Scanner → List Sign
@@ -236,7 +236,7 @@ did_signs did.Finish v = finished ∷ []
 
 abbrev pub DidLends : EventKind → Scanner → Type 0
 DidLends did.Begin v = LendsStart v
-DidLends did.Text v = (has_text v.what ≡ true) × (last_text v ≢ [])
+DidLends did.Text v = (gives_text v.what ≡ true) × (last_text v ≢ [])
 DidLends _ v = Unit {0}
 
 -- the tokens of which this was done
@@ -268,7 +268,7 @@ left owed = owed.ends + own_left owed.own
 
 -- How much of the piece was taken. What is due is told first: then no byte is, and one event fewer is due. Where nothing is due all of the piece is
 -- taken if there is nothing yet, behind which nothing is due either; and else a byte at least.
-pub record Takes (piece : List ℕ) (n : ℕ) (is_nothing : Bool) (old new : PendingEvents) : Type 0 where
+pub record TakesBytes (piece : List ℕ) (n : ℕ) (is_nothing : Bool) (old new : PendingEvents) : Type 0 where
   pub fits : n ≤ length piece
   pub all : is_nothing ≡ true → n ≡ length piece
   pub due : is_nothing ≡ true → (left old ≡ 0) × (left new ≡ 0)
@@ -277,12 +277,12 @@ pub record Takes (piece : List ℕ) (n : ℕ) (is_nothing : Bool) (old new : Pen
 
 -- Whatever it stands for: it answers only where neither a fault nor want of memory was answered; a fault comes again, and want of memory. A fault
 -- leaves the open elements as they were.
-abbrev pub KeepsOn : Nested → List ℕ → Result (ℕ × EventKind) Stop → Nested → Type 0
-KeepsOn old piece (Ok r) new =
-    (old.failed ≡ None) × (old.out_of_memory ≡ false) × (new.failed ≡ None) × (new.out_of_memory ≡ false) × Takes piece r.0 (did_more r.1) old.owed new.owed
-KeepsOn old piece (Err (stop.Fault fault)) new =
+abbrev pub NestKeepsOn : Nested → List ℕ → Result (ℕ × EventKind) Stop → Nested → Type 0
+NestKeepsOn old piece (Ok r) new =
+    (old.failed ≡ None) × (old.out_of_memory ≡ false) × (new.failed ≡ None) × (new.out_of_memory ≡ false) × TakesBytes piece r.0 (did_more r.1) old.owed new.owed
+NestKeepsOn old piece (Err (stop.Fault fault)) new =
     (old.out_of_memory ≡ false) × ((old.failed ≡ None) ⊎ (old.failed ≡ Some fault)) × (new.failed ≡ Some fault) × (new.out_of_memory ≡ false) × (new.line ≡ old.line)
-KeepsOn old piece (Err stop.NoMemory) new = ((old.out_of_memory ≡ true) ⊎ (old.failed ≡ None)) × (new.out_of_memory ≡ true)
+NestKeepsOn old piece (Err stop.NoMemory) new = ((old.out_of_memory ≡ true) ⊎ (old.failed ≡ None)) × (new.out_of_memory ≡ true)
 
 -- this fault was answered, and is from then on
 pub record Fallen (fault : Fault) (v : Nested) : Type 0 where
@@ -299,13 +299,13 @@ pub record Done (syntax : Syntax) (limits : Limits) (bytes : List ℕ) (signs : 
 
 -- A byte of the piece decides the page's fault, whatever follows the bytes through it; before it nothing is told of the piece, a token that the tree
 -- doesn't show or the byte order mark neither; and what stands before the faulty token goes on to a page.
-pub record Faults (syntax : Syntax) (limits : Limits) (bytes piece : List ℕ) (fault : Fault) : Type 0 where
+pub record NestFaults (syntax : Syntax) (limits : Limits) (bytes piece : List ℕ) (fault : Fault) : Type 0 where
   pub stays : (rest : List ℕ) → FaultAt syntax limits ((bytes ++ piece) ++ rest) fault
   pub decides : (rest : List ℕ) → FaultAt syntax limits (take (fault.at + 1) (bytes ++ piece) ++ rest) fault
   pub before : NoneYet syntax limits bytes (take (fault.at - length bytes) piece)
   pub from : length bytes ≤ fault.at
   pub within : fault.at < length (bytes ++ piece)
-  pub front : IsFront syntax limits (take fault.token (bytes ++ piece))
+  pub front : IsPageFront syntax limits (take fault.token (bytes ++ piece))
 
 -- Before the byte that decides the fault the page shows no more than these signs.
 abbrev pub Unshown : Syntax → Limits → List ℕ → List Sign → List ℕ → Type 0
@@ -323,7 +323,7 @@ pub record OpenBefore (syntax : Syntax) (limits : Limits) (bytes : List ℕ) (to
 
 abbrev pub FaultGives : Syntax → Limits → List ℕ → List Sign → List ℕ → Stop → Nested → Type 0
 FaultGives syntax limits bytes signs piece (stop.Fault fault) new =
-    Faults syntax limits bytes piece fault × Fallen fault new × Unshown syntax limits bytes signs piece × OpenBefore syntax limits (bytes ++ piece) fault.token new.line
+    NestFaults syntax limits bytes piece fault × Fallen fault new × Unshown syntax limits bytes signs piece × OpenBefore syntax limits (bytes ++ piece) fault.token new.line
 FaultGives syntax limits bytes signs piece stop.NoMemory new = new.out_of_memory ≡ true
 
 abbrev pub AdvanceGives : Syntax → Limits → List ℕ → List Sign → List ℕ → Result (ℕ × EventKind) Stop → Nested → Type 0
@@ -361,7 +361,7 @@ TellsOf (event.Text text) s bytes items = texts_of items ≡ Some (chars text.no
 TellsOf event.Finish s bytes items = MayBeTag items
 
 -- the event is the last text
-pub record Says (v : Scanner) (e : Event) : Type 0 where
+pub record IsLastText (v : Scanner) (e : Event) : Type 0 where
   pub signs_are : event_signs e ≡ did_signs did.Text v
   pub tells : (s : Scanning) (bytes : List ℕ) (items : List Item) → texts_of items ≡ Some (last_text v) → TellsOf e s bytes items
 
@@ -372,16 +372,16 @@ pub record Begins (v : Scanner) (e : Event) : Type 0 where
   pub tells : (s : Scanning) (bytes : List ℕ) (items : List Item) → MayBeTag items → TellsOf e s bytes items
 
 -- the event of what was done
-abbrev pub Shown : EventKind → Scanner → Event → Type 0
-Shown did.More v e = e ≡ event.More
-Shown did.Skipped v e = e ≡ event.Skipped
-Shown did.Finish v e = e ≡ event.Finish
-Shown did.Begin v e = (is_more e ≡ false) × (LendsStart v → Begins v e)
-Shown did.Text v e = (is_more e ≡ false) × (has_text v.what ≡ true → Says v e)
+abbrev pub ShowsEvent : EventKind → Scanner → Event → Type 0
+ShowsEvent did.More v e = e ≡ event.More
+ShowsEvent did.Skipped v e = e ≡ event.Skipped
+ShowsEvent did.Finish v e = e ≡ event.Finish
+ShowsEvent did.Begin v e = (is_more e ≡ false) × (LendsStart v → Begins v e)
+ShowsEvent did.Text v e = (is_more e ≡ false) × (gives_text v.what ≡ true → IsLastText v e)
 
 -- A step has taken the first n bytes of the piece, and shows what the page's tree has next. Of what it skips the tree shows nothing, and then
 -- nothing is due.
-pub record Stepped (syntax : Syntax) (limits : Limits) (bytes : List ℕ) (signs : List Sign) (piece : List ℕ) (n : ℕ) (e : Event) (new : Nested) : Type 0 where
+pub record NestStepped (syntax : Syntax) (limits : Limits) (bytes : List ℕ) (signs : List Sign) (piece : List ℕ) (n : ℕ) (e : Event) (new : Nested) : Type 0 where
   pub fits : n ≤ length piece
   pub stands : NestStands syntax limits new (bytes ++ take n piece) (signs ++ event_signs e)
   pub speaks : Speaks e
@@ -389,18 +389,18 @@ pub record Stepped (syntax : Syntax) (limits : Limits) (bytes : List ℕ) (signs
   pub passed : is_skipped e ≡ true → (0 < n) × (left new.owed ≡ 0)
   pub tokens : Completes syntax limits bytes (take n piece) (is_skipped e) (TellsOf e)
 
-abbrev pub StepGives : Syntax → Limits → List ℕ → List Sign → List ℕ → Result (ℕ × Event) Stop → Nested → Type 0
-StepGives syntax limits bytes signs piece (Ok r) new = Stepped syntax limits bytes signs piece r.0 r.1 new
-StepGives syntax limits bytes signs piece (Err stop) new = FaultGives syntax limits bytes signs piece stop new
+abbrev pub NestStepGives : Syntax → Limits → List ℕ → List Sign → List ℕ → Result (ℕ × Event) Stop → Nested → Type 0
+NestStepGives syntax limits bytes signs piece (Ok r) new = NestStepped syntax limits bytes signs piece r.0 r.1 new
+NestStepGives syntax limits bytes signs piece (Err stop) new = FaultGives syntax limits bytes signs piece stop new
 
 -- Whatever the nest stands for: it answers only where neither a fault nor want of memory was answered; a fault comes again, and want of memory. A
 -- fault leaves the open elements as they were.
-abbrev pub Keeps : Nested → List ℕ → Result (ℕ × Event) Stop → Nested → Type 0
-Keeps old piece (Ok r) new =
-    (old.failed ≡ None) × (old.out_of_memory ≡ false) × (new.failed ≡ None) × (new.out_of_memory ≡ false) × Takes piece r.0 (is_more r.1) old.owed new.owed
-Keeps old piece (Err (stop.Fault fault)) new =
+abbrev pub NestKeepsStop : Nested → List ℕ → Result (ℕ × Event) Stop → Nested → Type 0
+NestKeepsStop old piece (Ok r) new =
+    (old.failed ≡ None) × (old.out_of_memory ≡ false) × (new.failed ≡ None) × (new.out_of_memory ≡ false) × TakesBytes piece r.0 (is_more r.1) old.owed new.owed
+NestKeepsStop old piece (Err (stop.Fault fault)) new =
     (old.out_of_memory ≡ false) × ((old.failed ≡ None) ⊎ (old.failed ≡ Some fault)) × (new.failed ≡ Some fault) × (new.out_of_memory ≡ false) × (new.line ≡ old.line)
-Keeps old piece (Err stop.NoMemory) new = ((old.out_of_memory ≡ true) ⊎ (old.failed ≡ None)) × (new.out_of_memory ≡ true)
+NestKeepsStop old piece (Err stop.NoMemory) new = ((old.out_of_memory ≡ true) ⊎ (old.failed ≡ None)) × (new.out_of_memory ≡ true)
 
 abbrev pub KeepsEnd : Nested → Result (Unit {0}) Stop → Nested → Type 0
 KeepsEnd old (Ok done) new = (old.failed ≡ None) × (old.out_of_memory ≡ false) × (new ≡ old)
@@ -409,16 +409,16 @@ KeepsEnd old (Err (stop.Fault fault)) new =
 KeepsEnd old (Err stop.NoMemory) new = (old.out_of_memory ≡ true) × (new ≡ old)
 
 -- the end of the page's reading, by its fault if it has one
-abbrev pub EndsWith : Syntax → Limits → List ℕ → List nesting.Event → Option Fault → Type 0
-EndsWith syntax limits bytes told (Some fault) = end_of (page_read syntax limits bytes) ≡ Err fault
-EndsWith syntax limits bytes told None = (final : Progress) × (end_of (page_read syntax limits bytes) ≡ Ok final) × (final.told ≡ told)
+abbrev pub ReadingEndsWith : Syntax → Limits → List ℕ → List nesting.Event → Option Fault → Type 0
+ReadingEndsWith syntax limits bytes told (Some fault) = page_ended (page_read syntax limits bytes) ≡ Err fault
+ReadingEndsWith syntax limits bytes told None = (final : Progress) × (page_ended (page_read syntax limits bytes) ≡ Ok final) × (final.told ≡ told)
 
 abbrev pub IfNoFault : Option Fault → Type 0 → Type 0
 IfNoFault None holds = holds
 IfNoFault (Some fault) holds = Unit {0}
 
 -- The bytes are a page, and what was shown, with what is owed, is its tree.
-pub record Ended (syntax : Syntax) (limits : Limits) (bytes : List ℕ) (signs : List Sign) (owed : List Sign) : Type 0 where
+pub record NestEnded (syntax : Syntax) (limits : Limits) (bytes : List ℕ) (signs : List Sign) (owed : List Sign) : Type 0 where
   pub tree : Tree
   pub page : Page syntax limits bytes tree
   pub shown : signs ++ owed ≡ signs_of tree
@@ -429,35 +429,35 @@ pub record IsBetween (syntax : Syntax) (limits : Limits) (bytes : List ℕ) : Ty
   pub read : page_read syntax limits bytes ≡ Ok now
   pub none : now.now.scan.run ≡ []
 
-abbrev pub EndGives : Syntax → Limits → List ℕ → List Sign → Nested → Result (Unit {0}) Stop → Nested → Type 0
-EndGives syntax limits bytes signs old (Ok done) new = Ended syntax limits bytes signs (owed_signs old.owed (last_tag old.scan))
-EndGives syntax limits bytes signs old (Err (stop.Fault fault)) new = FaultAt syntax limits bytes fault × (fault.kind ≡ Unended) × (fault.at ≡ length bytes)
-EndGives syntax limits bytes signs old (Err stop.NoMemory) new = ⊥
+abbrev pub NestEndGives : Syntax → Limits → List ℕ → List Sign → Nested → Result (Unit {0}) Stop → Nested → Type 0
+NestEndGives syntax limits bytes signs old (Ok done) new = NestEnded syntax limits bytes signs (owed_signs old.owed (last_tag old.scan))
+NestEndGives syntax limits bytes signs old (Err (stop.Fault fault)) new = FaultAt syntax limits bytes fault × (fault.kind ≡ Unended) × (fault.at ≡ length bytes)
+NestEndGives syntax limits bytes signs old (Err stop.NoMemory) new = ⊥
 
 -- What a call does to a nest, whatever bytes it stands for.
-abbrev pub Advances : Nested → List ℕ → Result (ℕ × EventKind) Stop → Nested → Type 0
-Advances old piece result new =
+abbrev pub NestAdvances : Nested → List ℕ → Result (ℕ × EventKind) Stop → Nested → Type 0
+NestAdvances old piece result new =
     (syntax : Syntax) (limits : Limits) (bytes : List ℕ) (signs : List Sign) → NestStands syntax limits old bytes signs → AdvanceGives syntax limits bytes signs piece result new
 
-abbrev pub Steps : Nested → List ℕ → Result (ℕ × Event) Stop → Nested → Type 0
-Steps old piece result new =
-    (syntax : Syntax) (limits : Limits) (bytes : List ℕ) (signs : List Sign) → NestStands syntax limits old bytes signs → StepGives syntax limits bytes signs piece result new
+abbrev pub NestSteps : Nested → List ℕ → Result (ℕ × Event) Stop → Nested → Type 0
+NestSteps old piece result new =
+    (syntax : Syntax) (limits : Limits) (bytes : List ℕ) (signs : List Sign) → NestStands syntax limits old bytes signs → NestStepGives syntax limits bytes signs piece result new
 
-abbrev pub Ends : Nested → Result (Unit {0}) Stop → Nested → Type 0
-Ends old result new =
-    (syntax : Syntax) (limits : Limits) (bytes : List ℕ) (signs : List Sign) → NestStands syntax limits old bytes signs → EndGives syntax limits bytes signs old result new
+abbrev pub NestEnds : Nested → Result (Unit {0}) Stop → Nested → Type 0
+NestEnds old result new =
+    (syntax : Syntax) (limits : Limits) (bytes : List ℕ) (signs : List Sign) → NestStands syntax limits old bytes signs → NestEndGives syntax limits bytes signs old result new
 
 -- a piece of text behind bytes in which no token is unfinished never wants memory
-abbrev pub IsQuiet : {A : Type 0} → Nested → List ℕ → Result A Stop → Type 0
-IsQuiet old piece result =
+abbrev pub NestIsQuiet : {A : Type 0} → Nested → List ℕ → Result A Stop → Type 0
+NestIsQuiet old piece result =
     (syntax : Syntax) (limits : Limits) (bytes : List ℕ) (signs : List Sign) → NestStands syntax limits old bytes signs
     → IsBetween syntax limits bytes → is_quiet piece ≡ true → IsNoMemory result ≡ false
 
 -- the same of the scanner and the open elements by themselves
-abbrev pub Reads : Scanner → Lines → List ℕ → Result (ℕ × TreeToken) Stop → Scanner → Lines → Type 0
-Reads scan line piece result next new =
+abbrev pub NestReads : Scanner → Lines → List ℕ → Result (ℕ × TreeToken) Stop → Scanner → Lines → Type 0
+NestReads scan line piece result next new =
     (syntax : Syntax) (limits : Limits) (bytes : List ℕ) (told : List nesting.Event) → At syntax limits bytes told scan line
-    → ReadGives syntax limits bytes told piece line result next new
+    → NestReadGives syntax limits bytes told piece line result next new
 
 abbrev pub ReadsQuietly : Scanner → Lines → List ℕ → Result (ℕ × TreeToken) Stop → Type 0
 ReadsQuietly scan line piece result =
@@ -466,4 +466,4 @@ ReadsQuietly scan line piece result =
 
 abbrev pub EndsAt : Scanner → Lines → Option Fault → Type 0
 EndsAt scan line result =
-    (syntax : Syntax) (limits : Limits) (bytes : List ℕ) (told : List nesting.Event) → At syntax limits bytes told scan line → EndsWith syntax limits bytes told result
+    (syntax : Syntax) (limits : Limits) (bytes : List ℕ) (told : List nesting.Event) → At syntax limits bytes told scan line → ReadingEndsWith syntax limits bytes told result

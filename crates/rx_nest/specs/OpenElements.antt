@@ -1,6 +1,6 @@
 -- The open elements that a nest keeps, and so its depth, are those of the grammar.
 use Rattle.std.specs.Prelude.{◌≡◌, ℕ, List, length, None}
-use Rattle.rx_grammar.specs.Common.{Entry, Syntax, Line, Phase, Begun}
+use Rattle.rx_grammar.specs.Common.{PlacedCharacter, Syntax, Line, Phase, Begun}
 use Rattle.rx_grammar.specs.declared.limits.Limits.{Limits}
 use Rattle.rx_pages.specs.Fronts.{IsUnderway}
 use Rattle.rx_nest.specs.Lines.{Lines}
@@ -21,5 +21,5 @@ HasOpenOfFronts = (syntax : Syntax) (limits : Limits) (nest : Nested) (bytes : L
 -- law: those of the front before what is unfinished, else
 abbrev pub HasOpenUnderway : Type 0
 HasOpenUnderway =
-    (syntax : Syntax) (limits : Limits) (nest : Nested) (bytes : List ℕ) (signs : List Sign) (line : Line) (phase : Phase) (run : List Entry) (part : List ℕ)
+    (syntax : Syntax) (limits : Limits) (nest : Nested) (bytes : List ℕ) (signs : List Sign) (line : Line) (phase : Phase) (run : List PlacedCharacter) (part : List ℕ)
     → NestStands syntax limits nest bytes signs → IsUnderway syntax limits bytes line phase run part → HasOpen syntax nest.line line

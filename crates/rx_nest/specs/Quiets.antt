@@ -9,11 +9,11 @@ use Rattle.rx_nest.specs.Signs.{Sign}
 use Rattle.rx_nest.specs.declared.turns.Turn.{Turn}
 use Rattle.rx_nest.specs.declared.turns.Turn.TheVariants as turn
 use Rattle.rx_nest.specs.Ways.{Way}
-use Rattle.rx_nest.specs.Readings.{Goes, OwesNone, Read, ReadingStands}
+use Rattle.rx_nest.specs.Readings.{ListenerStands, OwesNone, Read, ReadingStands}
 
 -- between two tokens of these bytes nothing is due, and text needs no memory
 pub record QuietAt {L : Type 0} (way : Way) (knows : L → List Sign → Type 0) (idle : L → Type 0) (nest : Nested) (listener : L) (bytes : List ℕ) : Type 0 where
-  pub goes : Goes way knows nest listener bytes
+  pub goes : ListenerStands way knows nest listener bytes
   pub between : IsBetween way.syntax way.limits bytes
   pub paid : OwesNone nest
   pub idles : idle listener

@@ -23,7 +23,7 @@ pub record Read (L : Type 0) : Type 0 where
   pub out_of_memory : Bool
 
 -- the signs that were read of these bytes are those for which the listener stands
-pub record Goes {L : Type 0} (way : Way) (knows : L → List Sign → Type 0) (nest : Nested) (listener : L) (bytes : List ℕ) : Type 0 where
+pub record ListenerStands {L : Type 0} (way : Way) (knows : L → List Sign → Type 0) (nest : Nested) (listener : L) (bytes : List ℕ) : Type 0 where
   pub signs : List Sign
   pub shown : nests.NestStands way.syntax way.limits nest bytes signs
   pub known : knows listener signs
@@ -32,7 +32,7 @@ pub record Goes {L : Type 0} (way : Way) (knows : L → List Sign → Type 0) (n
 pub record Somewhere {S L : Type 0} (way : S → Way) (knows : S → L → List Sign → Type 0) (nest : Nested) (listener : L) : Type 0 where
   pub setting : S
   pub bytes : List ℕ
-  pub goes : Goes (way setting) (knows setting) nest listener bytes
+  pub goes : ListenerStands (way setting) (knows setting) nest listener bytes
 
 -- the last tag shows no more
 abbrev pub OwesNone : Nested → Type 0
@@ -44,13 +44,13 @@ Ready way knows nest listener failed out_of_memory = failed ≡ None → out_of_
 
 -- The reading stands for these bytes of a page: its listener was told of them, and nothing is due.
 pub record ReadingStands {L : Type 0} (way : Way) (knows : L → List Sign → Type 0) (reading : Read L) (bytes : List ℕ) : Type 0 where
-  pub goes : Goes way knows reading.nest reading.listener bytes
+  pub goes : ListenerStands way knows reading.nest reading.listener bytes
   pub paid : OwesNone reading.nest
   pub unfailed : reading.failed ≡ None
   pub unspent : reading.out_of_memory ≡ false
 
 -- a listener that was told nothing, for a page of this syntax and with these limits
-pub record IsNew {S L : Type 0} (way : S → Way) (knows : S → L → List Sign → Type 0) (syntax : Syntax) (limits : Limits) (listener : L) : Type 0 where
+pub record IsNewListener {S L : Type 0} (way : S → Way) (knows : S → L → List Sign → Type 0) (syntax : Syntax) (limits : Limits) (listener : L) : Type 0 where
   pub setting : S
   pub syntax_is : (way setting).syntax ≡ syntax
   pub limits_are : (way setting).limits ≡ limits
@@ -58,12 +58,12 @@ pub record IsNew {S L : Type 0} (way : S → Way) (knows : S → L → List Sign
 
 -- a turn has taken the whole piece, and nothing is due; or the first n bytes of it
 abbrev pub TurnGives : {L : Type 0} → Way → (L → List Sign → Type 0) → List ℕ → List ℕ → Result Turn Stop → Nested → L → Type 0
-TurnGives way knows bytes piece (Ok turn.Done) nest listener = Goes way knows nest listener (bytes ++ piece) × OwesNone nest
-TurnGives way knows bytes piece (Ok (turn.Took n)) nest listener = Goes way knows nest listener (bytes ++ take n piece)
+TurnGives way knows bytes piece (Ok turn.Done) nest listener = ListenerStands way knows nest listener (bytes ++ piece) × OwesNone nest
+TurnGives way knows bytes piece (Ok (turn.Took n)) nest listener = ListenerStands way knows nest listener (bytes ++ take n piece)
 TurnGives way knows bytes piece (Err why) nest listener = StopGives way (bytes ++ piece) why
 
 abbrev pub PieceGives : {L : Type 0} → Way → (L → List Sign → Type 0) → List ℕ → List ℕ → Result (Unit {0}) Stop → Nested → L → Type 0
-PieceGives way knows bytes piece (Ok done) nest listener = Goes way knows nest listener (bytes ++ piece) × OwesNone nest
+PieceGives way knows bytes piece (Ok done) nest listener = ListenerStands way knows nest listener (bytes ++ piece) × OwesNone nest
 PieceGives way knows bytes piece (Err why) nest listener = StopGives way (bytes ++ piece) why
 
 abbrev pub FeedGives : {L : Type 0} → Way → (L → List Sign → Type 0) → List ℕ → List ℕ → Result (Unit {0}) Stop → Read L → Type 0
@@ -84,13 +84,13 @@ pub record IsWhole {S L : Type 0} (way : S → Way) (knows : S → L → List Si
   pub whole : Whole (way setting) (knows setting) bytes listener
 
 -- the bytes end within a page
-abbrev pub Unfinished : Way → List ℕ → Stop → Type 0
-Unfinished way bytes (stop.Fault fault) = FaultAt way.syntax way.limits bytes fault × (fault.kind ≡ Unended) × (fault.at ≡ length bytes)
-Unfinished way bytes stop.NoMemory = ⊥
+abbrev pub EndsWithinPage : Way → List ℕ → Stop → Type 0
+EndsWithinPage way bytes (stop.Fault fault) = FaultAt way.syntax way.limits bytes fault × (fault.kind ≡ Unended) × (fault.at ≡ length bytes)
+EndsWithinPage way bytes stop.NoMemory = ⊥
 
 abbrev pub EndGives : {L : Type 0} → Way → (L → List Sign → Type 0) → List ℕ → Result L Stop → Type 0
 EndGives way knows bytes (Ok listener) = Whole way knows bytes listener
-EndGives way knows bytes (Err why) = Unfinished way bytes why
+EndGives way knows bytes (Err why) = EndsWithinPage way bytes why
 
 -- a fault or want of memory was answered
 abbrev pub has_failed : {L : Type 0} → Read L → Bool
@@ -100,11 +100,11 @@ has_failed reading = is_some reading.failed || reading.out_of_memory
 module _ {S L : Type 0} (way : S → Way) (knows : S → L → List Sign → Type 0) where
   abbrev pub TakesTurn : Nested → L → List ℕ → Result Turn Stop → Nested → L → Type 0
   TakesTurn nest listener piece result nest' listener' =
-      (setting : S) (bytes : List ℕ) → Goes (way setting) (knows setting) nest listener bytes → TurnGives (way setting) (knows setting) bytes piece result nest' listener'
+      (setting : S) (bytes : List ℕ) → ListenerStands (way setting) (knows setting) nest listener bytes → TurnGives (way setting) (knows setting) bytes piece result nest' listener'
 
   abbrev pub TakesPiece : Nested → L → List ℕ → Result (Unit {0}) Stop → Nested → L → Type 0
   TakesPiece nest listener piece result nest' listener' =
-      (setting : S) (bytes : List ℕ) → Goes (way setting) (knows setting) nest listener bytes → PieceGives (way setting) (knows setting) bytes piece result nest' listener'
+      (setting : S) (bytes : List ℕ) → ListenerStands (way setting) (knows setting) nest listener bytes → PieceGives (way setting) (knows setting) bytes piece result nest' listener'
 
   -- a reading that was made stands for no bytes
   abbrev pub StandsFirst : Syntax → Limits → L → Read L → Type 0

@@ -1,6 +1,6 @@
 -- The open elements that the tree shows: what a template holds is no part of it.
 use Rattle.std.specs.Prelude.{◌≡◌, ◌||◌, Bool, false, ℕ, List, [], ◌∷◌, if◌then◌else◌}
-use Rattle.rx_grammar.specs.Common.{Entry, Syntax, Tag, hides, StartTag, Line, inside_of, Phase}
+use Rattle.rx_grammar.specs.Common.{PlacedCharacter, Syntax, Tag, hides, StartTag, Line, inside_of, Phase}
 use Rattle.rx_grammar.specs.declared.limits.Limits.{Limits}
 use Rattle.rx_pages.specs.Fronts.{IsUnderway}
 use Rattle.rx_nest.specs.Signs.{Sign, begun, said, finished}
@@ -8,13 +8,13 @@ use Rattle.rx_nest.specs.Nests.{Nested, NestStands}
 use Rattle.rx_nest.specs.Readings.{OwesNone}
 
 -- the tag of an element, without its place
-abbrev pub tag_of : StartTag → Tag
-tag_of t = record { closing = false; name = t.name; attributes = t.attributes; slash = t.slash }
+abbrev pub unplaced_tag : StartTag → Tag
+unplaced_tag t = record { closing = false; name = t.name; attributes = t.attributes; slash = t.slash }
 
 -- one of these elements hides what it holds
 abbrev pub is_hidden_in : Syntax → Line → Bool
 is_hidden_in syntax [] = false
-is_hidden_in syntax (t ∷ above) = is_hidden_in syntax above || hides (inside_of syntax above) (tag_of t)
+is_hidden_in syntax (t ∷ above) = is_hidden_in syntax above || hides (inside_of syntax above) (unplaced_tag t)
 
 -- Of the open elements those that no other one hides, the innermost first.
 abbrev pub shown_line : Syntax → Line → Line
@@ -41,7 +41,7 @@ open_after line (sign ∷ signs) = open_after (open_on line sign) signs
 pub record IsSomewhere (syntax : Syntax) (limits : Limits) (bytes : List ℕ) : Type 0 where
   pub line : Line
   pub phase : Phase
-  pub run : List Entry
+  pub run : List PlacedCharacter
   pub part : List ℕ
   pub underway : IsUnderway syntax limits bytes line phase run part
 
@@ -54,4 +54,4 @@ StandsUnderway = (syntax : Syntax) (limits : Limits) (nest : Nested) (bytes : Li
 abbrev pub ShowsOpenOnes : Type 0
 ShowsOpenOnes = (syntax : Syntax) (limits : Limits) (nest : Nested) (bytes : List ℕ) (signs : List Sign)
     → NestStands syntax limits nest bytes signs → OwesNone nest
-    → (line : Line) (phase : Phase) (run : List Entry) (part : List ℕ) → IsUnderway syntax limits bytes line phase run part → open_after [] signs ≡ shown_line syntax line
+    → (line : Line) (phase : Phase) (run : List PlacedCharacter) (part : List ℕ) → IsUnderway syntax limits bytes line phase run part → open_after [] signs ≡ shown_line syntax line

@@ -65,8 +65,8 @@ next_own (Some o) = own_next o
 abbrev pub next_owed : PendingEvents → Option (EventKind × PendingEvents)
 next_owed owed = if nat_lt 0 owed.ends then Some (did.Finish, record { ends = owed.ends - 1; own = owed.own }) else next_own owed.own
 
-abbrev pub first_of : TreeToken → EventKind × PendingEvents
-first_of tree_token.More = (did.More, paid)
-first_of tree_token.Skipped = (did.Skipped, paid)
-first_of tree_token.Text = (did.Text, paid)
-first_of (tree_token.Tag told) = if nat_lt 0 told.ends then (did.Finish, record { ends = told.ends - 1; own = Some told.own }) else first_own told.own
+abbrev pub first_event : TreeToken → EventKind × PendingEvents
+first_event tree_token.More = (did.More, paid)
+first_event tree_token.Skipped = (did.Skipped, paid)
+first_event tree_token.Text = (did.Text, paid)
+first_event (tree_token.Tag told) = if nat_lt 0 told.ends then (did.Finish, record { ends = told.ends - 1; own = Some told.own }) else first_own told.own

@@ -36,7 +36,7 @@ pub record IsRefusal (refused : List Sign → Option Fault) : Type 0 where
 abbrev pub refuses_none : List Sign → Option Fault
 refuses_none signs = None
 
-abbrev IsSome : Option Fault → Type 0
+abbrev pub IsSome : Option Fault → Type 0
 IsSome None = ⊥
 IsSome (Some fault) = Unit {0}
 

@@ -271,8 +271,8 @@ impl Levels {
     /// innermost element is one that no other tag ends, which is told first.
     #[inline(always)]
     pub(crate) fn end_by(&mut self, closing: bool, name: &str) -> usize
-        ensures levels { self.new.levels ≡ levels.kept (levels.ends_by closing (chars name.now)) self.old.levels }
-        ensures ended { result ≡ levels.ended (levels.ends_by closing (chars name.now)) self.old.levels }
+        ensures levels { self.new.levels ≡ levels.kept_levels (levels.ends_by closing (chars name.now)) self.old.levels }
+        ensures ended { result ≡ levels.ended_count (levels.ends_by closing (chars name.now)) self.old.levels }
         ensures room { self.new.room ≡ self.old.room }
         ensures memory { self.new.memory ≡ self.old.memory }
         ensures fits { length self.old.levels ≤ self.old.room }
@@ -291,8 +291,8 @@ impl Levels {
     // The same, one after another. It is rare, and stands apart so that what is common stays short.
     #[inline(never)]
     fn end_omissible(&mut self, closing: bool, name: &str) -> usize
-        ensures levels { self.new.levels ≡ levels.kept (levels.ends_by closing (chars name.now)) self.old.levels }
-        ensures ended { result ≡ levels.ended (levels.ends_by closing (chars name.now)) self.old.levels }
+        ensures levels { self.new.levels ≡ levels.kept_levels (levels.ends_by closing (chars name.now)) self.old.levels }
+        ensures ended { result ≡ levels.ended_count (levels.ends_by closing (chars name.now)) self.old.levels }
         ensures room { self.new.room ≡ self.old.room }
         ensures memory { self.new.memory ≡ self.old.memory }
     {

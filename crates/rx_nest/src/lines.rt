@@ -287,7 +287,7 @@ impl OpenElements {
     fn enter(&mut self, tag: &Tag<'_>, alone: bool) -> Result<(), NoMemory>
         requires room { nat_le self.old.depth (length self.old.levels) ≡ false }
         requires is { alone ≡ contents.is_alone self.old.syntax (levels.place_under self.old.levels) (tag_seen tag.now) }
-        ensures { OnOk result (self.new ≡ record self.old { begun = true; levels = lines.begun_under self.old.syntax (tag_seen tag.now) self.old.levels }) }
+        ensures { OnOk result (self.new ≡ record self.old { begun = true; levels = lines.levels_begun self.old.syntax (tag_seen tag.now) self.old.levels }) }
     {
         self.begun = true;
         if alone {
@@ -313,7 +313,7 @@ impl OpenElements {
     }
 
     fn end(&mut self, tag: &Tag<'_>) -> Result<TagEffect, Refused>
-        ensures { lines.EndGives self.old (tag_seen tag.now) result self.new }
+        ensures { lines.EndTagGives self.old (tag_seen tag.now) result self.new }
     {
         if !self.is_open() {
             return Err(Refused::Fault(Kind::NothingOpen));
@@ -335,7 +335,7 @@ impl OpenElements {
 
     // Whether the innermost element has the end tag's name.
     fn is_named(&self, tag: &Tag<'_>) -> bool
-        ensures { result ≡ lines.is_named (tag_seen tag.now).name self.now.levels }
+        ensures { result ≡ lines.is_open_named (tag_seen tag.now).name self.now.levels }
     {
         match self.levels.top() {
             Some(level) => element_names::is_same(level.name(), tag.name()),

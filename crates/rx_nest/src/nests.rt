@@ -40,13 +40,13 @@ pub struct Nest {
 }
 
 impl Model for Nest {
-    ghost use Rattle.rx_nest.specs.Nests.{Nested, Ready};
+    ghost use Rattle.rx_nest.specs.Nests.{NestReady, Nested};
 
     ghost Value = { Nested };
 
     ghost view = { λ n. record { scan = n.scan; line = n.line; owed = n.owed; failed = n.latch.failed; out_of_memory = n.latch.out_of_memory } };
 
-    ghost invariant = { λ n. Ready n.scan n.line n.owed n.latch.failed n.latch.out_of_memory };
+    ghost invariant = { λ n. NestReady n.scan n.line n.owed n.latch.failed n.latch.out_of_memory };
 }
 
 impl Nest {
@@ -74,10 +74,10 @@ impl Nest {
 
     // What is due first, then what the next bytes tell.
     fn advance(&mut self, piece: &[u8]) -> Result<(usize, EventKind), Stop>
-        ensures steps { nests.Advances self.old piece.now result self.new }
-        ensures keeps { nests.KeepsOn self.old piece.now result self.new }
+        ensures steps { nests.NestAdvances self.old piece.now result self.new }
+        ensures keeps { nests.NestKeepsOn self.old piece.now result self.new }
         ensures lends { IfOk result (λ done. nests.DidLends done.1 self.new.scan) }
-        ensures quiet { nests.IsQuiet self.old piece.now result }
+        ensures quiet { nests.NestIsQuiet self.old piece.now result }
     {
         self.latch.repeat()?;
         if let Some((did, owed)) = next_owed(self.owed) {
@@ -100,7 +100,7 @@ impl Nest {
     // The event of what was done.
     fn shown(&self, did: EventKind) -> Event<'_>
         requires { nests.DidLends did self.now.scan }
-        ensures { nests.Shown did self.now.scan result }
+        ensures { nests.ShowsEvent did self.now.scan result }
     {
         match did {
             EventKind::More => Event::More,
@@ -131,8 +131,8 @@ impl Nest {
     /// so far, and then at each later call; it is the page's fault, whatever follows. After want of memory nothing else is
     /// answered. Text takes none: a piece without `<` and `&` that comes where no token is unfinished never wants memory.
     pub fn step(&mut self, piece: &[u8]) -> Result<(usize, Event<'_>), Stop>
-        ensures* after { sem 𝓛 (Rests the_row self.entry (λ new. nests.Keeps self.old piece.now result new × nests.Steps self.old piece.now result new)) }
-        ensures quiet { nests.IsQuiet self.old piece.now result }
+        ensures* after { sem 𝓛 (Rests the_row self.entry (λ new. nests.NestKeepsStop self.old piece.now result new × nests.NestSteps self.old piece.now result new)) }
+        ensures quiet { nests.NestIsQuiet self.old piece.now result }
     {
         let (taken, did) = match self.advance(piece) {
             Ok(done) => done,
@@ -144,7 +144,7 @@ impl Nest {
     /// The page's end. `Unended` comes exactly where the bytes so far are no page and no earlier fault stands in them,
     /// and then at each later call. After `Ok` what was told, with what the last tag still tells, is the page's tree.
     pub fn end(&mut self) -> Result<(), Stop>
-        ensures ends { nests.Ends self.old result self.new }
+        ensures ends { nests.NestEnds self.old result self.new }
         ensures keeps { nests.KeepsEnd self.old result self.new }
     {
         self.latch.repeat()?;
@@ -158,7 +158,7 @@ impl Nest {
 
 // The fault of the page's end, if it has one.
 fn ending(scan: &mut Scan, line: &OpenElements) -> Option<Fault>
-    requires { nests.Somewhere scan.old line.now }
+    requires { nests.StandsSomewhere scan.old line.now }
     ensures ends { nests.EndsAt scan.old line.now result }
     ensures keeps { nests.IfNoFault result (scan.new ≡ scan.old) }
 {

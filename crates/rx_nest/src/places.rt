@@ -69,7 +69,7 @@ impl Place {
 
     /// What may stand inside an element of this name whose start tag stands here.
     pub(crate) fn inside(self, syntax: Syntax, name: &str) -> Place
-        ensures { result ≡ contents.place_in syntax self (chars name.now) }
+        ensures { result ≡ contents.place_inside syntax self (chars name.now) }
     {
         match syntax {
             Syntax::Xhtml => Place::of(Content::Strict),

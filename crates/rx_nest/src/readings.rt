@@ -95,7 +95,7 @@ impl<L: Listener + Drop> Reading<L> {
         limits: Limits,
         listener: L,
     ) -> Result<Reading<L>, NoMemory>
-        requires { readings.IsNew L.way L.knows syntax limits listener }
+        requires { readings.IsNewListener L.way L.knows syntax limits listener }
         ensures { IfOk result (λ reading. readings.StandsFirst L.way L.knows syntax limits listener reading) }
     {
         let Ok(nest) = Nest::new(alloc, syntax, limits) else {

@@ -14,8 +14,8 @@ pub(crate) fn read(
     line: &mut OpenElements,
     piece: &[u8],
 ) -> Result<(usize, TreeToken), Stop>
-    requires { nests.Somewhere scan.old line.old }
-    ensures reads { nests.Reads scan.old line.old piece.now result scan.new line.new }
+    requires { nests.StandsSomewhere scan.old line.old }
+    ensures reads { nests.NestReads scan.old line.old piece.now result scan.new line.new }
     ensures takes { nests.ReadTakes piece.now result }
     ensures stays { nests.StaysAtFault result line.old line.new }
     ensures quiet { nests.ReadsQuietly scan.old line.old piece.now result }

@@ -116,7 +116,7 @@ fn next_own(own: TagAction) -> Option<(EventKind, PendingEvents)>
 
 /// What is done first of what was heard, and what is owed then.
 pub(crate) fn first_of(what: TreeToken) -> (EventKind, PendingEvents)
-    ensures { result ≡ tree_token.first_of what }
+    ensures { result ≡ tree_token.first_event what }
 {
     match what {
         TreeToken::More => (EventKind::More, PendingEvents::NONE),

@@ -1,5 +1,5 @@
 -- The names of the blank nodes of a document: its labels are free, and its places are below their number.
-use Rattle.rx_notation.proofs.Common.{◌≤◌, ◌<◌, ℕ, suc, ◌+◌, List, [], ◌∷◌, refl, inl, inr, subst, arith, Among, Node, Iri, Blank, Term, Resource, Literal, Triple, set_of, blank_of_node, blank_of_term, Has, Among_cases, Prefixes, Subject, Named, Labelled, Sort, Object, Objects, Items, Predicates, Further, Part, IriOrLabel, Anonymous, Bracketed, Collection, Single, Comma, Last, Item, Predicate, Semicolon, Also, Statement, predicate_of, unlabelled, Of, node_of, term_of, triples, all_triples, Name, Label, Place}
+use Rattle.rx_notation.proofs.Common.{◌≤◌, ◌<◌, ℕ, suc, ◌+◌, List, [], ◌∷◌, refl, inl, inr, subst, arith, Among, Node, Iri, Blank, Term, Resource, Literal, Triple, set_of, blank_of_node, blank_of_term, Has, Among_cases, Prefixes, Subject, Named, Labelled, Sort, Object, Objects, Items, Predicates, Further, Part, IriOrLabel, Anonymous, Bracketed, Collection, Single, Comma, Last, Item, Predicate, Semicolon, Also, Statement, predicate_of, unlabelled, Of, node_of, term_of, triples, all_triples, TurtleBlank, Label, Place}
 use Rattle.rx_notation.proofs.Spelled.{GoodSubject, Good, GoodStatement}
 
 abbrev pub all_unlabelled : List Statement → ℕ
@@ -12,23 +12,23 @@ some_item (Item object items) = omega arith
 
 module _ (free : ℕ → Type 0) (most : ℕ) where
   -- a label is free, and a place is one of so many
-  abbrev pub BoundName : Name → Type 0
+  abbrev pub BoundName : TurtleBlank → Type 0
   BoundName (Label n) = free n
   BoundName (Place n) = n < most
 
-  abbrev BoundNode : Node Name → Type 0
+  abbrev BoundNode : Node TurtleBlank → Type 0
   BoundNode (Iri iri) = Unit {0}
   BoundNode (Blank name) = BoundName name
 
-  abbrev BoundTerm : Term Name → Type 0
+  abbrev BoundTerm : Term TurtleBlank → Type 0
   BoundTerm (Resource node) = BoundNode node
   BoundTerm (Literal text kind) = Unit {0}
 
-  record BoundTriple (t : Triple Name) : Type 0 where
+  record BoundTriple (t : Triple TurtleBlank) : Type 0 where
     subject : BoundNode t.subject
     object : BoundTerm t.object
 
-  abbrev BoundOf : (sort : Sort) → Of Name sort → Type 0
+  abbrev BoundOf : (sort : Sort) → Of TurtleBlank sort → Type 0
   BoundOf Objects of = BoundNode of.0
   BoundOf Predicates of = BoundNode of
   BoundOf Further of = BoundNode of
@@ -46,7 +46,7 @@ module _ (free : ℕ → Type 0) (most : ℕ) where
     term_bound (Collection items) n h b = let some = some_item items in omega (arith, b, some)
     term_bound _ n h b = tt
 
-    part_bound : {sort : Sort} (p : Part sort) (of : Of Name sort) (n : ℕ) → Good context free p → BoundOf sort of → n + unlabelled p ≤ most → (t : Triple Name) → Among (triples prefixes Label Place p of n) t → BoundTriple t
+    part_bound : {sort : Sort} (p : Part sort) (of : Of TurtleBlank sort) (n : ℕ) → Good context free p → BoundOf sort of → n + unlabelled p ≤ most → (t : Triple TurtleBlank) → Among (triples prefixes Label Place p of n) t → BoundTriple t
     part_bound (Bracketed predicates) of n h k b t m = part_bound predicates (Blank (Place n)) (suc n) h (omega (arith, b)) (omega (arith, b)) t m
     part_bound (Collection items) of n h k b t m = part_bound items tt n h tt b t m
     part_bound (Single object) of n h k b t (inl e) = subst BoundTriple e (record { subject = k; object = term_bound object n h b })
@@ -82,7 +82,7 @@ module _ (free : ℕ → Type 0) (most : ℕ) where
     part_bound _ of n h k b t m = absurd m
 
     all_bound : (statements : List Statement) (n : ℕ) → ((s : Statement) → Among statements s → GoodStatement context free s) → n + all_unlabelled statements ≤ most
-        → (t : Triple Name) → Among (all_triples prefixes Label Place statements n) t → BoundTriple t
+        → (t : Triple TurtleBlank) → Among (all_triples prefixes Label Place statements n) t → BoundTriple t
     all_bound [] n good b t m = absurd m
     all_bound (s ∷ more) n good b t m =
         elim (Among_cases (triples prefixes Label Place s.predicates (node_of prefixes Label Place s.subject) n) (all_triples prefixes Label Place more (n + unlabelled s.predicates)) t m) [
@@ -93,17 +93,17 @@ module _ (free : ℕ → Type 0) (most : ℕ) where
         first : GoodStatement context free s
         first = good s (inl refl)
 
-    in_node : (node : Node Name) (name : Name) → BoundNode node → Among (blank_of_node node) name → BoundName name
+    in_node : (node : Node TurtleBlank) (name : TurtleBlank) → BoundNode node → Among (blank_of_node node) name → BoundName name
     in_node (Iri iri) name h m = absurd m
     in_node (Blank other) name h (inl e) = subst BoundName e h
     in_node (Blank other) name h (inr m) = absurd m
 
-    in_term : (o : Term Name) (name : Name) → BoundTerm o → Among (blank_of_term o) name → BoundName name
+    in_term : (o : Term TurtleBlank) (name : TurtleBlank) → BoundTerm o → Among (blank_of_term o) name → BoundName name
     in_term (Resource node) name h m = in_node node name h m
     in_term (Literal text kind) name h m = absurd m
 
     pub names_bound : (statements : List Statement) → ((s : Statement) → Among statements s → GoodStatement context free s) → all_unlabelled statements ≤ most
-        → (name : Name) → Has (set_of (all_triples prefixes Label Place statements 0)) name → BoundName name
+        → (name : TurtleBlank) → Has (set_of (all_triples prefixes Label Place statements 0)) name → BoundName name
     names_bound statements good b name (t, m, h) =
         let bound = all_bound statements 0 good (omega (arith, b)) t m in
         elim (Among_cases (blank_of_node t.subject) (blank_of_term t.object) name h) [

@@ -1,7 +1,7 @@
 -- The prefixes that a text uses.
 use Rattle.rx_model.proofs.Common.{◌≡◌, ◌∙◌, ◌⊎◌, ◌↔◌, ℕ, Bool, true, false, cond, List, [], ◌∷◌, ◌++◌, map, filter, flat_map, length, drop, Option, Some, None, bytes_eq, refl, sym, ap, ap₂, inl, inr, subst, true≢false, arith, not, ◌==◌, and_parts, and_from, nat_tests, Chars, begins_with, by_test, Among, IsExact, contains, Triple, Among_filter, Among_of_filter, Among_of_filter_map, Among-contains, Among_by_contains, Among_map, Among_of_map, false_unless, or_left, or_right, Among_filter_map, exact_texts}
-use Rattle.rx_notation.specs.Short.{Prefix, Prefixes, is_before, is_prefix_name, is_local_name, local_name, shortens, is_preferred, preferred, best, prefix_of}
-use Rattle.rx_notation.specs.Layout.{iris_of, used, same_prefix, those_among, placed, in_byte_order, prefixes_used}
+use Rattle.rx_notation.specs.Short.{Prefix, Prefixes, is_byte_less, is_prefix_name, is_local_name, local_name, shortens, is_preferred, preferred, best, prefix_of}
+use Rattle.rx_notation.specs.Layout.{iris_of, used, same_prefix, those_among, prefix_placed, in_byte_order, prefixes_used}
 use Rattle.rx_notation.specs.Spelling.{names_differ}
 use Rattle.rx_notation.specs.Meaning.{iri_at, is_known}
 use Rattle.rx_notation.specs.Syntax.{Short}
@@ -90,25 +90,25 @@ apart_filter test (p ∷ ps) h =
 
 -- ---- prefixes in order
 
-in_placed : (p : Prefix) (ps : Prefixes) (q : Prefix) → Among (placed p ps) q ↔ Among (p ∷ ps) q
+in_placed : (p : Prefix) (ps : Prefixes) (q : Prefix) → Among (prefix_placed p ps) q ↔ Among (p ∷ ps) q
 in_placed p [] q = (λ m. m, λ m. m)
-in_placed p (first ∷ more) q = go (is_before first.0 p.0) (in_placed p more q)
+in_placed p (first ∷ more) q = go (is_byte_less first.0 p.0) (in_placed p more q)
   where
-    go : (b : Bool) → Among (placed p more) q ↔ Among (p ∷ more) q → Among (cond b (first ∷ placed p more) (p ∷ first ∷ more)) q ↔ Among (p ∷ first ∷ more) q
+    go : (b : Bool) → Among (prefix_placed p more) q ↔ Among (p ∷ more) q → Among (cond b (first ∷ prefix_placed p more) (p ∷ first ∷ more)) q ↔ Among (p ∷ first ∷ more) q
     go false ih = (λ m. m, λ m. m)
     go true ih = (
       λ m. elim m [ inl e ↦ inr (inl e) | inr k ↦ elim (ih.0 k) [ inl e ↦ inl e | inr l ↦ inr (inr l) ] ],
       λ m. elim m [ inl e ↦ inr (ih.1 (inl e)) | inr k ↦ elim k [ inl e ↦ inl e | inr l ↦ inr (ih.1 (inr l)) ] ],
     )
 
-apart_placed : (p : Prefix) (ps : Prefixes) → ((q : Prefix) → Among ps q → p.0 ≡ q.0 → ⊥) → Apart ps → Apart (placed p ps)
+apart_placed : (p : Prefix) (ps : Prefixes) → ((q : Prefix) → Among ps q → p.0 ≡ q.0 → ⊥) → Apart ps → Apart (prefix_placed p ps)
 apart_placed p [] h k = (h, tt)
-apart_placed p (first ∷ more) h k = go (is_before first.0 p.0) (apart_placed p more (λ q m. h q (inr m)) k.1)
+apart_placed p (first ∷ more) h k = go (is_byte_less first.0 p.0) (apart_placed p more (λ q m. h q (inr m)) k.1)
   where
-    from_first : (q : Prefix) → Among (placed p more) q → first.0 ≡ q.0 → ⊥
+    from_first : (q : Prefix) → Among (prefix_placed p more) q → first.0 ≡ q.0 → ⊥
     from_first q m e = elim ((in_placed p more q).0 m) [ inl f ↦ h first (inl refl) (ap (λ (z : Prefix). z.0) f ∙ sym e) | inr n ↦ k.0 q n e ]
 
-    go : (b : Bool) → Apart (placed p more) → Apart (cond b (first ∷ placed p more) (p ∷ first ∷ more))
+    go : (b : Bool) → Apart (prefix_placed p more) → Apart (cond b (first ∷ prefix_placed p more) (p ∷ first ∷ more))
     go true ih = (from_first, ih)
     go false ih = (h, k)
 

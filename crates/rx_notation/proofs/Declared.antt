@@ -1,5 +1,5 @@
 -- The prefixes that a document declares are those of its short forms.
-use Rattle.rx_notation.proofs.Common.{◌≡◌, ◌∙◌, ℕ, Bool, true, List, [], ◌∷◌, ◌++◌, filter, flat_map, codes, Some, bytes_eq, refl, sym, ap, inl, inr, subst, ◌&&◌, and_from, Chars, IsIri, Among, contains, Kind, Plain, Tagged, Typed, rdf_type, Among_filter, Among_of_filter, Among-contains, Among_by_contains, exact_texts, kind_of, proper_kind, WritableKind, iris_of_kind, iris_of_predicate, Prefix, Prefixes, is_prefix_name, local_name, prefix_of, Reference, Full, Short, Subject, Named, Labelled, Verb, By, Type_of, Suffix, Datatype, Sort, Part, IriOrLabel, Quoted, Bracketed, Collection, Single, Comma, Last, Item, Predicate, Semicolon, Also, Statement, iri_of, is_known, is_known_subject, is_known_verb, is_known_suffix, all_known, are_known, predicate_of, kind_by, reference_to, verb_of, suffix_of, name_in, names_of_subject, names_of_verb, names_of_suffix, piece_names, prefixes_named, Piece, words, inside_gap, line_gap, pieces, all_pieces}
+use Rattle.rx_notation.proofs.Common.{◌≡◌, ◌∙◌, ℕ, Bool, true, List, [], ◌∷◌, ◌++◌, filter, flat_map, codes, Some, bytes_eq, refl, sym, ap, inl, inr, subst, ◌&&◌, and_from, Chars, IsIri, Among, contains, Kind, Plain, Tagged, Typed, rdf_type, Among_filter, Among_of_filter, Among-contains, Among_by_contains, exact_texts, literal_kind, proper_kind, WritableKind, iris_of_kind, iris_of_predicate, Prefix, Prefixes, is_prefix_name, local_name, prefix_of, Reference, Full, Short, Subject, Named, Labelled, Verb, By, Type_of, Suffix, Datatype, Sort, Part, IriOrLabel, Quoted, Bracketed, Collection, Single, Comma, Last, Item, Predicate, Semicolon, Also, Statement, iri_of, is_known, is_known_subject, is_known_verb, is_known_suffix, all_known, are_known, predicate_of, kind_by, reference_to, verb_of, suffix_of, prefix_named, names_of_subject, names_of_verb, names_of_suffix, piece_names, prefixes_named, Piece, words, inside_gap, line_gap, pieces, all_pieces}
 use Rattle.rx_terms.proofs.Bools.{by_test}
 use Rattle.rx_notation.proofs.Chosen.{Apart, Agree, by_prefix, prefix_fits, front_and_rest, known_there, in_ordered, apart_filter, apart_ordered}
 use Rattle.rx_notation.proofs.Spelled.{GoodReference, GoodSubject, GoodVerb, GoodSuffix, Good, GoodStatement}
@@ -63,7 +63,7 @@ module _ (context declared : Prefixes) (names : List Chars) (covers : (p : Prefi
   both : {a b : Bool} {all more rest : List Chars} → Takes a all more → Takes b more rest → Takes (a && b) all rest
   both f g = record { proper = λ k. f.proper (g.proper k); takes = λ w. let one = f.takes w in let two = g.takes one.1 in (and_from _ _ one.0 two.0, two.1) }
 
-  take_reference : (r : Reference) → GoodReference context free r → (rest : List Chars) → Takes (is_known declared r) (name_in r ++ rest) rest
+  take_reference : (r : Reference) → GoodReference context free r → (rest : List Chars) → Takes (is_known declared r) (prefix_named r ++ rest) rest
   take_reference (Full iri) h rest = nothing
   take_reference (Short name local) h rest = record {
     proper = λ f n m. elim m [ inl e ↦ subst (λ z. is_prefix_name z ≡ true) e h.0 | inr k ↦ f n k ];
@@ -122,5 +122,5 @@ module _ (context declared : Prefixes) (agree : Agree context declared) where
   verb_means p k = by_test (bytes_eq p rdf_type) (λ e. rw e (sym ((exact_texts p rdf_type).0 e))) (λ e. rw e (reference_means p (rw e at k)))
 
   pub kind_means : (kind : Kind) → is_known_suffix declared (suffix_of context kind) ≡ true → kind_by declared (suffix_of context kind) ≡ proper_kind kind
-  kind_means (Typed datatype) k = ap kind_of (reference_means datatype k)
+  kind_means (Typed datatype) k = ap literal_kind (reference_means datatype k)
   kind_means _ k = refl

@@ -1,5 +1,5 @@
 -- The document of the flat layout, and that the layout is its text.
-use Rattle.rx_notation.proofs.Common.{◌≡◌, ◌∙◌, ℕ, true, List, [], ◌∷◌, ◌++◌, map, flat_map, codes, bytes_eq, refl, sym, ap, ap₂, inl, inr, append_assoc, and_from, Chars, Among, Kind, Typed, Node, Iri, Blank, Term, Resource, Literal, Triple, rdf_type, string_text, subjects, objects_of, predicates_of, subject_says, predicate_says, Prefixes, Sort, Object, Objects, Part, IriOrLabel, Quoted, Statement, Document, is_flat, are_flat, reference_to, verb_of, suffix_of, subject_of, objects_after, some_objects, predicates_after, some_predicates, said_of}
+use Rattle.rx_notation.proofs.Common.{◌≡◌, ◌∙◌, ℕ, true, List, [], ◌∷◌, ◌++◌, map, flat_map, codes, bytes_eq, refl, sym, ap, ap₂, inl, inr, append_assoc, and_from, Chars, Among, Kind, Typed, Node, Iri, Blank, Term, Resource, Literal, Triple, rdf_type, string_text, subjects, objects_of, predicates_of, subject_says, predicate_says, Prefixes, Sort, Object, Objects, Part, IriOrLabel, Quoted, Statement, TurtleDocument, is_flat, are_flat, reference_to, verb_of, suffix_of, subject_of, objects_after, some_objects, predicates_after, some_predicates, said_of}
 use Rattle.rx_terms.proofs.Bools.{by_test}
 use Rattle.rx_notation.specs.Layout as flat
 use Rattle.rx_notation.specs.Writing.{Piece, words, reference_text, subject_text, verb_text, suffix_text, inside_gap, line_gap, pieces, all_pieces, document_text}
@@ -14,7 +14,7 @@ module _ (context : Prefixes) where
   abbrev pub statement_for : List (Triple ℕ) → Node ℕ → Statement
   statement_for list node = record { subject = subject_of context node; predicates = said_of context object_for list node }
 
-  abbrev pub laid_out : List (Triple ℕ) → Document
+  abbrev pub laid_out : List (Triple ℕ) → TurtleDocument
   laid_out list = record { prefixes = flat.prefixes_used context list; statements = map (statement_for list) (subjects list) }
 
   -- ---- texts of terms
@@ -26,10 +26,10 @@ module _ (context : Prefixes) where
   subject_is (Iri iri) = reference_is iri
   subject_is (Blank number) = refl
 
-  pub verb_is : (p : Chars) → verb_text (verb_of context p) ≡ flat.verb_text context p
+  pub verb_is : (p : Chars) → verb_text (verb_of context p) ≡ flat.short_predicate context p
   verb_is p = by_test (bytes_eq p rdf_type) (λ e. rw e refl) (λ e. rw e (reference_is p))
 
-  pub suffix_is : (kind : Kind) → suffix_text (suffix_of context kind) ≡ flat.suffix_text context kind
+  pub suffix_is : (kind : Kind) → suffix_text (suffix_of context kind) ≡ flat.kind_suffix context kind
   suffix_is (Typed datatype) = ap (λ z. codes "^^" ++ z) (reference_is datatype)
   suffix_is _ = refl
 
@@ -72,7 +72,7 @@ module _ (context : Prefixes) where
 
     -- a predicate and its objects
     abbrev line : Chars → Chars
-    line p = flat.verb_text context p ++ (codes " " ++ some_text (objects p))
+    line p = flat.short_predicate context p ++ (codes " " ++ some_text (objects p))
 
     abbrev semicolons : List Chars → Chars
     semicolons more = flat_map (λ next. codes " ;\n    " ++ next) (map line more)
@@ -82,7 +82,7 @@ module _ (context : Prefixes) where
 
     line_is : (p : Chars) → Laid inside_gap (line_part p) (some_text (objects p)) → (rest : List Piece) → verb_text (verb_of context p) ++ (codes " " ++ texts (pieces inside_gap (line_part p) rest)) ≡ line p ++ texts rest
     line_is p laid rest =
-        ap₂ (λ v os. v ++ (codes " " ++ os)) (verb_is p) (laid.text_is rest) ∙ sym (append_assoc (flat.verb_text context p) (codes " " ++ some_text (objects p)) (texts rest))
+        ap₂ (λ v os. v ++ (codes " " ++ os)) (verb_is p) (laid.text_is rest) ∙ sym (append_assoc (flat.short_predicate context p) (codes " " ++ some_text (objects p)) (texts rest))
 
     predicates_laid : (p : Chars) (more : List Chars) → HaveObjects (p ∷ more) → Laid line_gap (predicates_after context object_for objects p more) (line p ++ semicolons more)
     predicates_laid p [] some =

@@ -1,6 +1,7 @@
 -- The triples of a document under other names of its blank nodes.
 use Rattle.rx_notation.proofs.Common.{◌≡◌, ◌∙◌, ℕ, suc, ◌+◌, true, List, [], ◌∷◌, ◌++◌, map, refl, sym, ap, ap₂, inl, inr, subst, true≢false, and_parts, map-append, Chars, Among, Node, Iri, Blank, Term, Resource, Literal, Triple, set_of, spo, rename_node, rename_term, rename, blank_of_node, blank_of_term, blanks_of, Has, Among_map, Among_of_map, Among_cases, Prefixes, Subject, Named, Labelled, Sort, Object, Objects, Items, Predicates, Further, Part, IriOrLabel, Quoted, Nil, Bracketed, Collection, Single, Comma, Last, Item, Predicate, Semicolon, Also, Statement, is_flat, are_flat}
-use Rattle.rx_notation.specs.Meaning.{rdf_first, rdf_rest, rdf_nil, predicate_of, unlabelled, Of, node_of, term_of, triples, all_triples, Name, Label, Place, FlatIsNested}
+use Rattle.rx_model.specs.Vocabulary.{rdf_first, rdf_rest, rdf_nil}
+use Rattle.rx_notation.specs.Meaning.{predicate_of, unlabelled, Of, node_of, term_of, triples, all_triples, TurtleBlank, Label, Place, FlatIsNested}
 
 triple_path : {B : Type 0} (p : Chars) {s r : Node B} {o q : Term B} → s ≡ r → o ≡ q → spo s p o ≡ spo r p q
 triple_path p e f = λ i. record { subject = e i; predicate = p; object = f i }
@@ -100,26 +101,26 @@ module _ {B : Type 0} (prefixes : Prefixes) (label place other : ℕ → B) wher
       (all_same more (n + unlabelled s.predicates) parts.1)
 
 -- the number of a name
-abbrev number : Name → ℕ
+abbrev number : TurtleBlank → ℕ
 number (Label n) = n
 number (Place n) = n
 
-abbrev IsLabel : Name → Type 0
+abbrev IsLabel : TurtleBlank → Type 0
 IsLabel (Label n) = Unit {0}
 IsLabel (Place n) = ⊥
 
-node_name : (node : Node ℕ) (b : Name) → Among (blank_of_node (rename_node Label node)) b → IsLabel b
+node_name : (node : Node ℕ) (b : TurtleBlank) → Among (blank_of_node (rename_node Label node)) b → IsLabel b
 node_name (Blank a) b m = elim m [ inl e ↦ subst IsLabel e tt | inr k ↦ absurd k ]
 node_name (Iri iri) b m = absurd m
 
-triple_name : (t : Triple ℕ) (b : Name) → Among (blanks_of (rename Label t)) b → IsLabel b
+triple_name : (t : Triple ℕ) (b : TurtleBlank) → Among (blanks_of (rename Label t)) b → IsLabel b
 triple_name t b m = elim (Among_cases (blank_of_node (rename_node Label t.subject)) (blank_of_term (rename_term Label t.object)) b m) [ inl q ↦ node_name t.subject b q | inr q ↦ of_term t.object q ]
   where
     of_term : (o : Term ℕ) → Among (blank_of_term (rename_term Label o)) b → IsLabel b
     of_term (Resource node) q = node_name node b q
     of_term (Literal text kind) q = absurd q
 
-one_label : (a b : Name) → IsLabel a → IsLabel b → number a ≡ number b → a ≡ b
+one_label : (a b : TurtleBlank) → IsLabel a → IsLabel b → number a ≡ number b → a ≡ b
 one_label (Label n) (Label m) h k e = ap Label e
 one_label (Label n) (Place m) h k e = absurd k
 one_label (Place n) b h k e = absurd h
@@ -129,9 +130,9 @@ flat_is_nested text graph h =
     let p : Prefixes = h.document.prefixes in
     let ss : List Statement = h.document.statements in
     let labels : all_triples p Label Place ss 0 ≡ map (rename Label) (all_triples p (λ n. n) (λ n. 0) ss 0) = all_same p Label Place (λ n. Label 0) ss 0 h.flat ∙ sym (triples_renamed Label p (λ n. n) (λ n. 0) ss 0) in
-    let names : (b : Name) → Has (set_of (all_triples p Label Place ss 0)) b → IsLabel b = λ b has.
-    let found = Among_of_map (rename Label) (all_triples p (λ n. n) (λ n. 0) ss 0) has.0 (subst (λ (z : List (Triple Name)). Among z has.0) labels has.1) in
-    triple_name found.0 b (subst (λ (z : Triple Name). Among (blanks_of z) b) (sym found.2) has.2) in
+    let names : (b : TurtleBlank) → Has (set_of (all_triples p Label Place ss 0)) b → IsLabel b = λ b has.
+    let found = Among_of_map (rename Label) (all_triples p (λ n. n) (λ n. 0) ss 0) has.0 (subst (λ (z : List (Triple TurtleBlank)). Among z has.0) labels has.1) in
+    triple_name found.0 b (subst (λ (z : Triple TurtleBlank). Among (blanks_of z) b) (sym found.2) has.2) in
     let same = triples_renamed number p Label Place ss 0 in
     record {
       document = h.document;

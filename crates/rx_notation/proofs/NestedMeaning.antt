@@ -1,5 +1,5 @@
 -- The nested text denotes its list.
-use Rattle.rx_notation.proofs.Common.{◌≡◌, ◌∙◌, ◌⊎◌, ◌↔◌, ◌<◌, ℕ, zero, suc, nat_eq, true, List, [], ◌∷◌, map, filter, length, refl, sym, ap, inl, inr, subst, true≢false, arith, Chars, Among, Node, Iri, Blank, Term, Triple, same_node, same_triple, set_of, spo, rename, Has, Among_filter, Among_of_filter, Among_map, Among_of_map, exact_numbers, exact_triples, Inner, IsShape, HaveShapes, Shape, Prefix, Prefixes, subjects, Object, Part, Statement, Spells, are_known, all_triples, Name, Label, Place, NestedTurtle, IsContext, proper_triple, WritableNode, IsWritable, same_nodes, subject_there, verb_of, subject_of, object_by, written, is_top, is_top_by, statement_of, names_used, prefixes_named, document_of, nested, Differ, cell_inner, first_enough}
+use Rattle.rx_notation.proofs.Common.{◌≡◌, ◌∙◌, ◌⊎◌, ◌↔◌, ◌<◌, ℕ, zero, suc, nat_eq, true, List, [], ◌∷◌, map, filter, length, refl, sym, ap, inl, inr, subst, true≢false, arith, Chars, Among, Node, Iri, Blank, Term, Triple, same_node, same_triple, set_of, spo, rename, Has, Among_filter, Among_of_filter, Among_map, Among_of_map, exact_numbers, exact_triples, Inner, IsShape, HaveShapes, Shape, Prefix, Prefixes, subjects, Object, Part, Statement, SpellsTurtle, are_known, all_triples, TurtleBlank, Label, Place, NestedTurtle, IsContext, proper_triple, WritableNode, IsWritable, same_nodes, subject_there, verb_of, subject_of, object_by, written, is_top, is_top_by, statement_of, names_used, prefixes_named, document_of, nested, Differ, cell_inner, first_enough}
 use Rattle.rx_notation.proofs.Spelled.{GoodPrefix, GoodSubject, GoodVerb, GoodStatement, document_spelled}
 use Rattle.rx_shapes.specs.declared.shapes.Shape.TheVariants as shape
 use Rattle.rx_notation.proofs.Chosen.{Apart, names_apart, apart_names, Agree, declared_agree, none_named}
@@ -126,7 +126,7 @@ module _ (context : Prefixes) (list : List (Triple ℕ)) (shapes : ℕ → Shape
   none_said : all_statements ≡ [] → declared ≡ []
   none_said e = ap (λ (ss : List Statement). prefixes_named context (names_used ss)) e ∙ none_named context
 
-  spelled : Spells (nested context list shapes) (document_of context list shapes)
+  spelled : SpellsTurtle (nested context list shapes) (document_of context list shapes)
   spelled = record {
     spelled = document_spelled context (Free list) (document_of context list shapes) prefixes_good all_good none_said;
     once = apart_names declared (named_apart context names apart);
@@ -167,7 +167,7 @@ module _ (context : Prefixes) (list : List (Triple ℕ)) (shapes : ℕ → Shape
 
   -- ---- the names of its blank nodes
 
-  abbrev number_of : Name → ℕ
+  abbrev number_of : TurtleBlank → ℕ
   number_of (Label n) = n
   number_of (Place n) = place n
 
@@ -177,15 +177,15 @@ module _ (context : Prefixes) (list : List (Triple ℕ)) (shapes : ℕ → Shape
   order_differs : Differ order
   order_differs = below_differ list shapes have each_once tops tops_differ top_is
 
-  abbrev named : List (Triple Name)
+  abbrev named : List (Triple TurtleBlank)
   named = all_triples declared Label Place all_statements 0
 
-  bound : (name : Name) → Has (set_of named) name → BoundName (Free list) (length order) name
+  bound : (name : TurtleBlank) → Has (set_of named) name → BoundName (Free list) (length order) name
   bound name h =
       let e : all_unlabelled all_statements ≡ length order = size_of context declared agree list place context (Free list) object_at nodes_in each_means tops top_subject in
       names_bound (Free list) (length order) context declared all_statements all_good (omega (arith, e)) name h
 
-  one_to_one : (a b : Name) → BoundName (Free list) (length order) a → BoundName (Free list) (length order) b → number_of a ≡ number_of b → a ≡ b
+  one_to_one : (a b : TurtleBlank) → BoundName (Free list) (length order) a → BoundName (Free list) (length order) b → number_of a ≡ number_of b → a ≡ b
   one_to_one (Label n) (Label m) h k e = ap Label e
   one_to_one (Label n) (Place m) h k e = absurd (h (subst (Inner (set_of list)) (sym e) (below_inner list shapes have each_once tops (at order m) (at_there order m k))))
   one_to_one (Place n) (Label m) h k e = absurd (k (subst (Inner (set_of list)) e (below_inner list shapes have each_once tops (at order n) (at_there order n h))))

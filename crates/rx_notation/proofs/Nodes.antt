@@ -1,5 +1,5 @@
 -- What nodes mean that are written where they are used.
-use Rattle.rx_notation.proofs.Common.{◌≡◌, ◌∙◌, ◌⊎◌, ◌↔◌, ◌<◌, ◌^◌, ℕ, zero, suc, ◌+◌, List, [], ◌∷◌, ◌++◌, length, refl, sym, ap, inl, inr, subst, arith, and_parts, Chars, Among, Node, Iri, Blank, Term, Resource, Literal, Triple, set_of, spo, Among_left, Among_right, Among_cases, rdf_first, rdf_rest, rdf_nil, proper_term, proper_triple, WritableTerm, IsWritable, Inner, Cell, IsShape, HaveShapes, Shape, Prefixes, predicates_of, objects_of, Sort, Object, Items, Predicates, Part, Last, Item, all_known, unlabelled, term_of, triples, predicate_there, object_there, predicate_says, object_says, verb_of, predicates_after, bracketed, object_by, cells, node_by, written, CellOf, cell_of, cell_inner, Enough, none_left, child_enough}
+use Rattle.rx_notation.proofs.Common.{◌≡◌, ◌∙◌, ◌⊎◌, ◌↔◌, ◌<◌, ◌^◌, ℕ, zero, suc, ◌+◌, List, [], ◌∷◌, ◌++◌, length, refl, sym, ap, inl, inr, subst, arith, and_parts, Chars, Among, Node, Iri, Blank, Term, Resource, Literal, Triple, set_of, spo, Among_left, Among_right, Among_cases, rdf_first, rdf_rest, rdf_nil, proper_term, proper_triple, WritableTerm, IsWritable, Inner, Cell, IsShape, HaveShapes, Shape, Prefixes, predicates_of, objects_of, Sort, Object, Items, Predicates, Part, Last, Item, all_known, unlabelled, term_of, triples, predicate_there, object_there, predicate_says, object_says, verb_of, predicates_after, bracketed, object_by, cell_items, node_by, written, CellOf, cell_of, cell_inner, Enough, none_left, child_enough}
 use Rattle.std.proofs.lemmas.List.{length-append}
 use Rattle.rx_shapes.specs.declared.shapes.Shape.TheVariants as shape
 use Rattle.rx_notation.proofs.Chosen.{Agree}
@@ -216,7 +216,7 @@ module _ (context declared : Prefixes) (agree : Agree context declared) (list : 
 
   cells_mean : (node : ℕ → Part Object) (cell : ℕ → Part Items) (nodes below : ℕ → List ℕ) (number : ℕ) (c : CellOf list number)
       → MeansTerm (object_by context node c.item) c.item (in_term nodes c.item) → ((d : ℕ) → c.after ≡ Resource (Blank d) → Cell (set_of list) d → MeansItems (cell d) d (below d))
-      → MeansItems (cells (object_by context node) cell list number) number (in_cells nodes below number (objects_of list (Blank number) rdf_first) (objects_of list (Blank number) rdf_rest))
+      → MeansItems (cell_items (object_by context node) cell list number) number (in_cells nodes below number (objects_of list (Blank number) rdf_first) (objects_of list (Blank number) rdf_rest))
   cells_mean node cell nodes below number c item behind = elim c.next [
     | inl e ↦ by (cell_last list number c (object_by context node) cell e) (within e) (last_means node cell nodes below number c item e)
     | inr d ↦ by (cell_more list number c (object_by context node) cell d.0 d.1) (within d.1) (item_means node cell nodes below number c item d.0 d.1 (behind d.0 d.1 d.2))
@@ -257,7 +257,7 @@ module _ (context declared : Prefixes) (agree : Agree context declared) (list : 
         term_means left node o (w.parts (spo (Blank number) p o) m).object (λ n e i. child_enough list left number n p enough (subst (λ (z : Term ℕ). Among list (spo (Blank number) p z)) e m) i)
 
     cells_at : (left : ℕ) → ((n : ℕ) → MeansNode left n) → ((n : ℕ) → MeansCells left n) → (number : ℕ) → Cell (set_of list) number → Enough list (suc left) number
-        → MeansItems (cells (object_by context (node_at left)) (λ n. (written context list shapes left n).1) list number) number
+        → MeansItems (cell_items (object_by context (node_at left)) (λ n. (written context list shapes left n).1) list number) number
         (in_cells (nodes_at left) (λ n. (ordered list shapes left n).1) number (objects_of list (Blank number) rdf_first) (objects_of list (Blank number) rdf_rest))
     cells_at left node below number is_cell enough =
         cells_mean (node_at left) (λ n. (written context list shapes left n).1) (nodes_at left) (λ n. (ordered list shapes left n).1) number c

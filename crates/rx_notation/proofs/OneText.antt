@@ -1,5 +1,5 @@
 -- A text spells at most one document.
-use Rattle.rx_notation.proofs.Common.{◌≡◌, ◌∙◌, ℕ, ◌<◌, Bool, true, false, List, [], ◌∷◌, ◌++◌, codes, refl, sym, ap, ap₂, true≢false, arith, append_assoc, append-nil, bytes_eq, not, ◌==◌, ◌||◌, if◌then◌else◌, list_all, list_any, and_parts, and_from, nat_tests, is_letter, colon, line_feed, quotation_mark, less_than_sign, low_line, space, commercial_at, circumflex_accent, Chars, is_name_char, is_prefix_name, is_local_name, Reference, Full, Short, Subject, Named, Labelled, Suffix, Bare, Language, Datatype, Terminal, At_prefix, Small_a, Full_stop, Semicolon_sign, Comma_sign, Left_bracket, Right_bracket, Brackets, Left_parenthesis, Right_parenthesis, Parentheses, Token, terminal, declared, iri_or_label, quoted, document_tokens, terminal_text, SpellsReference, SpellsSubject, SpellsSuffix, SpellsQuoted, SpellsToken, is_separator, is_gap, SpellsBehind, SpellsTokens, SpellsOne}
+use Rattle.rx_notation.proofs.Common.{◌≡◌, ◌∙◌, ℕ, ◌<◌, Bool, true, false, List, [], ◌∷◌, ◌++◌, codes, refl, sym, ap, ap₂, true≢false, arith, append_assoc, append-nil, bytes_eq, not, ◌==◌, ◌||◌, if◌then◌else◌, list_all, list_any, and_parts, and_from, nat_tests, is_letter, colon, line_feed, quotation_mark, less_than_sign, low_line, space, commercial_at, circumflex_accent, Chars, is_name_char, is_prefix_name, is_local_name, Reference, Full, Short, Subject, Named, Labelled, Suffix, Bare, Language, Datatype, Terminal, At_prefix, Small_a, Full_stop, Semicolon_sign, Comma_sign, Left_bracket, Right_bracket, Brackets, Left_parenthesis, Right_parenthesis, Parentheses, TurtleToken, terminal, declared, iri_or_label, quoted, document_tokens, terminal_text, SpellsReference, SpellsSubject, SpellsSuffix, SpellsQuoted, SpellsToken, is_separator, is_spacing, SpellsBehind, SpellsTokens, TurtleSpellsOne}
 use Rattle.rx_model.proofs.Sets.{or_right, false_unless}
 use Rattle.rx_nquads.specs.Spelling.{tagged}
 use Rattle.rx_nquads.proofs.Cuts.{lacks, cut, lacks_where}
@@ -104,7 +104,7 @@ kind : Chars → ℕ
 kind [] = 9
 kind (c ∷ text) = if c == less_than_sign then 1 else if c == low_line then 2 else if c == quotation_mark then 4 else if has_colon (c ∷ text) then 3 else 0
 
-token_kind : Token → ℕ
+token_kind : TurtleToken → ℕ
 token_kind (terminal s) = 0
 token_kind (declared name) = 3
 token_kind (iri_or_label (Named (Full iri))) = 1
@@ -129,7 +129,7 @@ by_colon (c ∷ name) rest h =
     let letter : is_letter c ≡ true = (and_parts _ _ h).0 in
     rw (other is_letter less_than_sign c refl letter, other is_letter low_line c refl letter, other is_letter quotation_mark c refl letter, colon_there (c ∷ name) rest) refl
 
-kind_spelled : (spelling : Chars) (t : Token) → SpellsToken spelling t → kind spelling ≡ token_kind t
+kind_spelled : (spelling : Chars) (t : TurtleToken) → SpellsToken spelling t → kind spelling ≡ token_kind t
 unfolding kind token_kind
 kind_spelled spelling (terminal s) h = ap kind h ∙ sign_kind s
 kind_spelled spelling (declared name) h = ap kind h.spelled ∙ by_colon name [] h.is_name
@@ -195,14 +195,14 @@ no_local : (local : Chars) → is_local_name local ≡ true → [] ≡ local →
 no_local [] h e = true≢false (sym h)
 no_local (c ∷ local) h e = cc
 
-is_quoted : Token → Bool
+is_quoted : TurtleToken → Bool
 is_quoted (quoted text suffix) = true
 is_quoted _ = false
 
-no_kind : (s r : Chars) (t u : Token) → s ≡ r → SpellsToken s t → SpellsToken r u → (token_kind t ≡ token_kind u → ⊥) → ⊥
+no_kind : (s r : Chars) (t u : TurtleToken) → s ≡ r → SpellsToken s t → SpellsToken r u → (token_kind t ≡ token_kind u → ⊥) → ⊥
 no_kind s r t u e h k differ = differ (sym (kind_spelled s t h) ∙ ap kind e ∙ kind_spelled r u k)
 
-one_token : (s r : Chars) (t u : Token) → s ≡ r → is_quoted t ≡ false → SpellsToken s t → SpellsToken r u → t ≡ u
+one_token : (s r : Chars) (t u : TurtleToken) → s ≡ r → is_quoted t ≡ false → SpellsToken s t → SpellsToken r u → t ≡ u
 unfolding token_kind is_quoted
 one_token s r (terminal a) (terminal b) e n h k = ap terminal (one_sign a b (sym h ∙ e ∙ k))
 one_token s r (declared a) (declared b) e n h k = ap declared (before_colon a b [] [] h.is_name k.is_name (sym h.spelled ∙ e ∙ k.spelled)).0
@@ -221,7 +221,7 @@ one_token s r t u e n h k = absurd (no_kind s r t u e h k (λ z. omega (arith, z
 
 -- ---- a token at the front of a text
 
-plain_inked : (spelling : Chars) (t : Token) → is_quoted t ≡ false → SpellsToken spelling t → inked spelling ≡ true
+plain_inked : (spelling : Chars) (t : TurtleToken) → is_quoted t ≡ false → SpellsToken spelling t → inked spelling ≡ true
 unfolding is_quoted
 plain_inked spelling (terminal s) n h = ap inked h ∙ sign_inked s
 plain_inked spelling (declared name) n h = ap inked h.spelled ∙ named_inked name (colon ∷ []) (name_chars name h.is_name) refl
@@ -237,7 +237,7 @@ no_quote (c ∷ spelling) x y n h small e =
     let four : 4 ≡ n = sym (ap (λ d. kind (d ∷ spelling)) same) ∙ h in
     absurd (omega (arith, four, small))
 
-plain_small : (t : Token) → is_quoted t ≡ false → token_kind t < 4
+plain_small : (t : TurtleToken) → is_quoted t ≡ false → token_kind t < 4
 unfolding is_quoted token_kind
 plain_small (iri_or_label (Named (Full iri))) n = omega arith
 plain_small (quoted text suffix) n = absurd (true≢false n)
@@ -246,7 +246,7 @@ plain_small _ n = omega arith
 moved : (inside behind x : Chars) → (quotation_mark ∷ (inside ++ quotation_mark ∷ behind)) ++ x ≡ quotation_mark ∷ (inside ++ quotation_mark ∷ (behind ++ x))
 moved inside behind x = ap (λ z. quotation_mark ∷ z) (append_assoc inside (quotation_mark ∷ behind) x)
 
-quoted_front : (s r x y t u : Chars) (a b : Suffix) → SpellsQuoted s t a → SpellsQuoted r u b → stops is_ink x ≡ true → stops is_ink y ≡ true → s ++ x ≡ r ++ y → (◌≡◌ {A = Token} (quoted t a) (quoted u b)) × (x ≡ y)
+quoted_front : (s r x y t u : Chars) (a b : Suffix) → SpellsQuoted s t a → SpellsQuoted r u b → stops is_ink x ≡ true → stops is_ink y ≡ true → s ++ x ≡ r ++ y → (◌≡◌ {A = TurtleToken} (quoted t a) (quoted u b)) × (x ≡ y)
 quoted_front s r x y t u a b h k p q e =
     let both : quotation_mark ∷ (h.inside ++ quotation_mark ∷ (h.behind ++ x)) ≡ quotation_mark ∷ (k.inside ++ quotation_mark ∷ (k.behind ++ y)) =
     sym (ap (λ z. z ++ x) h.spelled ∙ moved h.inside h.behind x) ∙ e ∙ ap (λ z. z ++ y) k.spelled ∙ moved k.inside k.behind y in
@@ -254,17 +254,17 @@ quoted_front s r x y t u a b h k p q e =
     let parts = cut_where is_ink h.behind k.behind x y (suffix_inked h.behind a h.suffix_spelled) (suffix_inked k.behind b k.suffix_spelled) p q strings.1 in
     (ap₂ quoted strings.0 (one_suffix h.behind k.behind a b parts.0 h.suffix_spelled k.suffix_spelled), parts.1)
 
-plain_front : (s r x y : Chars) (t u : Token) → is_quoted t ≡ false → is_quoted u ≡ false → SpellsToken s t → SpellsToken r u → stops is_ink x ≡ true → stops is_ink y ≡ true → s ++ x ≡ r ++ y → (t ≡ u) × (x ≡ y)
+plain_front : (s r x y : Chars) (t u : TurtleToken) → is_quoted t ≡ false → is_quoted u ≡ false → SpellsToken s t → SpellsToken r u → stops is_ink x ≡ true → stops is_ink y ≡ true → s ++ x ≡ r ++ y → (t ≡ u) × (x ≡ y)
 plain_front s r x y t u n m h k p q e =
     let parts = cut_where is_ink s r x y (plain_inked s t n h) (plain_inked r u m k) p q e in
     (one_token s r t u parts.0 n h k, parts.1)
 
 -- a literal and another token
-mixed_front : (s r x y text : Chars) (suffix : Suffix) (u : Token) → is_quoted u ≡ false → SpellsQuoted s text suffix → SpellsToken r u → s ++ x ≡ r ++ y → ⊥
+mixed_front : (s r x y text : Chars) (suffix : Suffix) (u : TurtleToken) → is_quoted u ≡ false → SpellsQuoted s text suffix → SpellsToken r u → s ++ x ≡ r ++ y → ⊥
 mixed_front s r x y text suffix u n h k e =
     no_quote r y _ (token_kind u) (kind_spelled r u k) (plain_small u n) (sym e ∙ ap (λ z. z ++ x) h.spelled)
 
-token_front : (s r x y : Chars) (t u : Token) → SpellsToken s t → SpellsToken r u → stops is_ink x ≡ true → stops is_ink y ≡ true → s ++ x ≡ r ++ y → (t ≡ u) × (x ≡ y)
+token_front : (s r x y : Chars) (t u : TurtleToken) → SpellsToken s t → SpellsToken r u → stops is_ink x ≡ true → stops is_ink y ≡ true → s ++ x ≡ r ++ y → (t ≡ u) × (x ≡ y)
 unfolding is_quoted
 token_front s r x y (quoted text suffix) (quoted text' suffix') h k p q e = quoted_front s r x y text text' suffix suffix' h k p q e
 token_front s r x y (quoted text suffix) u h k p q e = absurd (mixed_front s r x y text suffix u refl h k e)
@@ -283,18 +283,18 @@ unfolding kind
 opens_by [] x n h k small = absurd (omega (arith, k, small))
 opens_by (c ∷ spelling) x n h k small = (and_parts _ _ h).0
 
-token_opens : (spelling x : Chars) (t : Token) → SpellsToken spelling t → stops is_separator (spelling ++ x) ≡ true
+token_opens : (spelling x : Chars) (t : TurtleToken) → SpellsToken spelling t → stops is_separator (spelling ++ x) ≡ true
 unfolding is_quoted
 token_opens spelling x (quoted text suffix) h = ap (λ z. stops is_separator (z ++ x)) h.spelled
 token_opens spelling x (terminal s) h = ap (λ z. stops is_separator (z ++ x)) h ∙ sign_opens s x
 token_opens spelling x t h = opens_by spelling x (token_kind t) (plain_inked spelling t refl h) (kind_spelled spelling t h) (plain_small t refl)
 
 -- what stands behind a token begins with a separator
-gap_stops : (gap rest : Chars) → is_gap gap ≡ true → stops is_ink (gap ++ rest) ≡ true
+gap_stops : (gap rest : Chars) → is_spacing gap ≡ true → stops is_ink (gap ++ rest) ≡ true
 gap_stops [] rest h = absurd (true≢false (sym h))
 gap_stops (c ∷ gap) rest h = ap (λ b. not (not b)) (and_parts _ _ h).0
 
-behind_stops : (text : Chars) (ts : List Token) → SpellsBehind text ts → stops is_ink text ≡ true
+behind_stops : (text : Chars) (ts : List TurtleToken) → SpellsBehind text ts → stops is_ink text ≡ true
 behind_stops text [] h = ap (stops is_ink) h
 behind_stops text (t ∷ ts) (gap, spelling, rest, g, s, b, e) = ap (stops is_ink) e ∙ gap_stops gap (spelling ++ rest) g
 
@@ -302,7 +302,7 @@ some_behind : (spelling rest : Chars) → stops is_ink rest ≡ true → [] ≡ 
 some_behind [] rest h e = true≢false (sym h ∙ ap (stops is_ink) (sym e))
 some_behind (c ∷ spelling) rest h e = cc
 
-not_last : (gap spelling rest : Chars) → is_gap gap ≡ true → stops is_ink rest ≡ true → line_feed ∷ [] ≡ gap ++ (spelling ++ rest) → ⊥
+not_last : (gap spelling rest : Chars) → is_spacing gap ≡ true → stops is_ink rest ≡ true → line_feed ∷ [] ≡ gap ++ (spelling ++ rest) → ⊥
 not_last [] spelling rest g h e = true≢false (sym g)
 not_last (c ∷ gap) spelling rest g h e = some_after gap (cc)
   where
@@ -310,7 +310,7 @@ not_last (c ∷ gap) spelling rest g h e = some_after gap (cc)
     some_after [] q = some_behind spelling rest h q
     some_after (d ∷ more) q = cc
 
-one_behind : (x y : Chars) (ts us : List Token) → x ≡ y → SpellsBehind x ts → SpellsBehind y us → ts ≡ us
+one_behind : (x y : Chars) (ts us : List TurtleToken) → x ≡ y → SpellsBehind x ts → SpellsBehind y us → ts ≡ us
 one_behind x y [] [] e h k = refl
 one_behind x y [] (u ∷ us) e h (gap, spelling, rest, g, s, b, q) = absurd (not_last gap spelling rest g (behind_stops rest us b) (sym h ∙ e ∙ q))
 one_behind x y (t ∷ ts) [] e (gap, spelling, rest, g, s, b, q) k = absurd (not_last gap spelling rest g (behind_stops rest ts b) (sym k ∙ sym e ∙ q))
@@ -319,7 +319,7 @@ one_behind x y (t ∷ ts) (u ∷ us) e (gap, spelling, rest, g, s, b, q) (gap', 
     let front = token_front spelling spelling' rest rest' t u s s' (behind_stops rest ts b) (behind_stops rest' us b') gaps.1 in
     ap₂ ◌∷◌ front.0 (one_behind rest rest' ts us front.1 b b')
 
-pub one_tokens : (text : Chars) (ts us : List Token) → SpellsTokens text ts → SpellsTokens text us → ts ≡ us
+pub one_tokens : (text : Chars) (ts us : List TurtleToken) → SpellsTokens text ts → SpellsTokens text us → ts ≡ us
 one_tokens text [] [] h k = refl
 one_tokens text [] (u ∷ us) h (spelling, rest, s, b, q) = absurd (some_behind spelling rest (behind_stops rest us b) (sym h ∙ q))
 one_tokens text (t ∷ ts) [] (spelling, rest, s, b, q) k = absurd (some_behind spelling rest (behind_stops rest ts b) (sym k ∙ q))
@@ -327,5 +327,5 @@ one_tokens text (t ∷ ts) (u ∷ us) (spelling, rest, s, b, q) (spelling', rest
     let front = token_front spelling spelling' rest rest' t u s s' (behind_stops rest ts b) (behind_stops rest' us b') (sym q ∙ q') in
     ap₂ ◌∷◌ front.0 (one_behind rest rest' ts us front.1 b b')
 
-pub spells_one : SpellsOne
+pub spells_one : TurtleSpellsOne
 spells_one text a b h k = one_document a b (one_tokens text (document_tokens a) (document_tokens b) h.spelled k.spelled)

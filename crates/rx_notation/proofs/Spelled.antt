@@ -1,5 +1,5 @@
 -- The text of a document spells it.
-use Rattle.rx_notation.proofs.Common.{◌≡◌, ℕ, ◌<◌, ◌^◌, true, List, [], ◌∷◌, ◌++◌, flat_map, codes, refl, sym, ap, inl, inr, subst, append_assoc, ◌∙◌, line_feed, quotation_mark, Chars, IsIri, Among, escaped_text, string_text, iri_text, Prefix, Prefixes, is_prefix_name, is_local_name, prefix_text, prefixes_text, Reference, Full, Short, Subject, Named, Labelled, Verb, By, Type_of, Suffix, Bare, Language, Datatype, Sort, Further, Part, IriOrLabel, Quoted, Anonymous, Nil, Bracketed, Collection, Single, Comma, Last, Item, Predicate, Done, Semicolon, Also, Statement, Document, At_prefix, Full_stop, Semicolon_sign, Comma_sign, Left_bracket, Right_bracket, Brackets, Left_parenthesis, Right_parenthesis, Parentheses, Token, terminal, declared, iri_or_label, quoted, verb_token, tokens, statement_tokens, prefix_tokens, document_tokens, SpellsReference, SpellsSubject, SpellsSuffix, SpellsToken, is_gap, SpellsBehind, SpellsTokens}
+use Rattle.rx_notation.proofs.Common.{◌≡◌, ℕ, ◌<◌, ◌^◌, true, List, [], ◌∷◌, ◌++◌, flat_map, codes, refl, sym, ap, inl, inr, subst, append_assoc, ◌∙◌, line_feed, quotation_mark, Chars, IsIri, Among, escaped_text, string_text, iri_text, Prefix, Prefixes, is_prefix_name, is_local_name, prefix_text, prefixes_text, Reference, Full, Short, Subject, Named, Labelled, Verb, By, Type_of, Suffix, Bare, Language, Datatype, Sort, Further, Part, IriOrLabel, Quoted, Anonymous, Nil, Bracketed, Collection, Single, Comma, Last, Item, Predicate, Done, Semicolon, Also, Statement, TurtleDocument, At_prefix, Full_stop, Semicolon_sign, Comma_sign, Left_bracket, Right_bracket, Brackets, Left_parenthesis, Right_parenthesis, Parentheses, TurtleToken, terminal, declared, iri_or_label, quoted, verb_token, part_tokens, statement_tokens, prefix_tokens, document_tokens, SpellsReference, SpellsSubject, SpellsSuffix, SpellsToken, is_spacing, SpellsBehind, SpellsTokens}
 use Rattle.rx_terms.specs.Lang.{is_lang}
 use Rattle.rx_nquads.proofs.Denoting.{label_spelled, string_spelled}
 use Rattle.rx_notation.proofs.Joining.{Opens, Puts, all_tokens, behind_gap, behind_token, opens_token, puts_token, puts_then, adds_gap}
@@ -30,7 +30,7 @@ prefix_moved name iri rest =
     ∙ ap (λ z. name ++ (codes ": " ++ z)) (append_assoc iri (codes " .") (codes "\n" ++ rest) ∙ sym (append_assoc iri (codes " .\n") rest))
     ∙ sym (append_assoc name (codes ": " ++ (iri ++ codes " .\n")) rest))
 
-module _ (text : Chars) (ts : List Token) (opens : Opens text ts) where
+module _ (text : Chars) (ts : List TurtleToken) (opens : Opens text ts) where
   abbrev lines : Prefixes → Chars
   lines ps = flat_map prefix_text ps ++ (codes "\n" ++ text)
 
@@ -110,11 +110,11 @@ module _ (context : Prefixes) (free : ℕ → Type 0) where
   -- ---- parts
 
   -- what follows a predicate begins with a gap, or is empty; all else begins with a token
-  abbrev Joined : Sort → Chars → List Token → Type 0
+  abbrev Joined : Sort → Chars → List TurtleToken → Type 0
   Joined Further text ts = SpellsBehind text ts
   Joined _ text ts = Opens text ts
 
-  part_spelled : {sort : Sort} (gap : Chars) → is_gap gap ≡ true → (p : Part sort) → Good p → (rest : List Piece) (ts : List Token) → SpellsBehind (texts rest) ts → Joined sort (texts (pieces gap p rest)) (tokens p ts)
+  part_spelled : {sort : Sort} (gap : Chars) → is_spacing gap ≡ true → (p : Part sort) → Good p → (rest : List Piece) (ts : List TurtleToken) → SpellsBehind (texts rest) ts → Joined sort (texts (pieces gap p rest)) (part_tokens p ts)
   part_spelled gap g (IriOrLabel subject) h rest ts b = opens_token (subject_text subject) (iri_or_label subject) (subject_spelled subject h) _ _ b
   part_spelled gap g (Quoted text suffix) h rest ts b = opens_token (string_text text ++ suffix_text suffix) (quoted text suffix) (record {
     inside = escaped_text text;
@@ -133,14 +133,14 @@ module _ (context : Prefixes) (free : ℕ → Type 0) where
       (part_spelled gap g items h (words (codes " )") ∷ rest) (terminal Right_parenthesis ∷ ts) (behind_token (codes " ") (codes ")") (terminal Right_parenthesis) refl refl _ _ b)))
   part_spelled gap g (Single object) h rest ts b = part_spelled gap g object h rest ts b
   part_spelled gap g (Comma object objects) h rest ts b =
-      part_spelled gap g object h.0 (words (codes " , ") ∷ pieces gap objects rest) (terminal Comma_sign ∷ tokens objects ts)
+      part_spelled gap g object h.0 (words (codes " , ") ∷ pieces gap objects rest) (terminal Comma_sign ∷ part_tokens objects ts)
       (behind_token (codes " ") (codes ",") (terminal Comma_sign) refl refl _ _ (behind_gap (codes " ") _ _ refl (part_spelled gap g objects h.1 rest ts b)))
   part_spelled gap g (Last object) h rest ts b = part_spelled gap g object h rest ts b
   part_spelled gap g (Item object items) h rest ts b =
-      part_spelled gap g object h.0 (words (codes " ") ∷ pieces gap items rest) (tokens items ts) (behind_gap (codes " ") _ _ refl (part_spelled gap g items h.1 rest ts b))
+      part_spelled gap g object h.0 (words (codes " ") ∷ pieces gap items rest) (part_tokens items ts) (behind_gap (codes " ") _ _ refl (part_spelled gap g items h.1 rest ts b))
   part_spelled gap g (Predicate verb objects further) h rest ts b =
       opens_token (verb_text verb) (verb_token verb) (verb_spelled verb h.0) _ _ (behind_gap (codes " ") _ _ refl
-      (part_spelled inside_gap refl objects h.1.0 (pieces gap further rest) (tokens further ts) (part_spelled gap g further h.1.1 rest ts b)))
+      (part_spelled inside_gap refl objects h.1.0 (pieces gap further rest) (part_tokens further ts) (part_spelled gap g further h.1.1 rest ts b)))
   part_spelled gap g Done h rest ts b = b
   part_spelled gap g (Semicolon further) h rest ts b = absurd h
   part_spelled gap g (Also predicates) h rest ts b =
@@ -167,7 +167,7 @@ module _ (context : Prefixes) (free : ℕ → Type 0) where
       (statement_opens s more (good s (inl refl)) (statements_behind more (λ r m. good r (inr m))))
 
   -- where nothing is said no prefix is declared
-  pub document_spelled : (d : Document) → ((p : Prefix) → Among d.prefixes p → GoodPrefix p) → ((s : Statement) → Among d.statements s → GoodStatement s) → (d.statements ≡ [] → d.prefixes ≡ [])
+  pub document_spelled : (d : TurtleDocument) → ((p : Prefix) → Among d.prefixes p → GoodPrefix p) → ((s : Statement) → Among d.statements s → GoodStatement s) → (d.statements ≡ [] → d.prefixes ≡ [])
       → SpellsTokens (document_text d) (document_tokens d)
   document_spelled d prefixes good none = by d.statements good none
     where

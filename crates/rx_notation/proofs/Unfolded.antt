@@ -1,6 +1,6 @@
 -- What a node is written as, without counting levels: a node in brackets by its own objects, a cell by its item and what
 -- comes behind.
-use Rattle.rx_notation.proofs.Common.{◌≡◌, ◌∙◌, ℕ, zero, suc, List, [], ◌∷◌, length, ◌<◌, ◌+◌, refl, sym, ap, ap₂, inl, inr, subst, arith, Chars, Among, Iri, Blank, Term, Resource, Literal, Triple, set_of, spo, rdf_first, rdf_rest, Inner, Cell, IsShape, HaveShapes, Shape, Prefixes, predicates_of, objects_of, Labelled, Object, Objects, Items, Predicates, Part, IriOrLabel, Bracketed, Collection, Single, Comma, Last, Item, Predicate, Done, Also, object_says, objects_after, some_objects, cells, verb_of, predicates_after, bracketed, inside, object_by, node_by, written, height, CellOf, cell_of, cell_inner, Enough, none_left, child_enough, first_enough}
+use Rattle.rx_notation.proofs.Common.{◌≡◌, ◌∙◌, ℕ, zero, suc, List, [], ◌∷◌, length, ◌<◌, ◌+◌, refl, sym, ap, ap₂, inl, inr, subst, arith, Chars, Among, Iri, Blank, Term, Resource, Literal, Triple, set_of, spo, rdf_first, rdf_rest, Inner, Cell, IsShape, HaveShapes, Shape, Prefixes, predicates_of, objects_of, Labelled, Object, Objects, Items, Predicates, Part, IriOrLabel, Bracketed, Collection, Single, Comma, Last, Item, Predicate, Done, Also, object_says, objects_after, some_objects, cell_items, verb_of, predicates_after, bracketed, inside, object_by, node_by, written, height, CellOf, cell_of, cell_inner, Enough, none_left, child_enough, first_enough}
 use Rattle.rx_shapes.specs.declared.shapes.Shape.TheVariants as shape
 use Rattle.rx_notation.proofs.CellParts.{cell_last, cell_more}
 
@@ -61,7 +61,7 @@ module _ (context : Prefixes) (list : List (Triple ℕ)) (shapes : ℕ → Shape
       (λ n e i. child_enough list most number n p k (subst (λ (z : Term ℕ). Among list (spo (Blank number) p z)) e m) i)
 
   cells_same : (left most : ℕ) → ((n : ℕ) → SameNode left most n) → ((n : ℕ) → SameCell left most n) → (number : ℕ) → Cell (set_of list) number → Enough list (suc left) number → Enough list (suc most) number
-      → cells (object_at left) (cell_at left) list number ≡ cells (object_at most) (cell_at most) list number
+      → cell_items (object_at left) (cell_at left) list number ≡ cell_items (object_at most) (cell_at most) list number
   cells_same left most node below number is_cell h k = elim c.next [
     | inl e ↦ cell_last list number c (object_at left) (cell_at left) e ∙ ap Last item ∙ sym (cell_last list number c (object_at most) (cell_at most) e)
     | inr d ↦ cell_more list number c (object_at left) (cell_at left) d.0 d.1 ∙ ap₂ Item item (next d.0 d.1 d.2) ∙ sym (cell_more list number c (object_at most) (cell_at most) d.0 d.1)
@@ -139,5 +139,5 @@ module _ (context : Prefixes) (list : List (Triple ℕ)) (shapes : ℕ → Shape
   pub node_unfolds : (n : ℕ) → node n ≡ node_by context list shapes object cell (shapes n) n
   node_unfolds n = (all_same (length list) (suc (length list))).0 n (enough n) (more_enough n)
 
-  pub cell_unfolds : (n : ℕ) → Cell (set_of list) n → cell n ≡ cells object cell list n
+  pub cell_unfolds : (n : ℕ) → Cell (set_of list) n → cell n ≡ cell_items object cell list n
   cell_unfolds n c = (all_same (length list) (suc (length list))).1 n c (enough n (cell_inner list n c)) (more_enough n (cell_inner list n c))

@@ -1,12 +1,13 @@
 -- Laws of the layout, and those that join it with what a text denotes.
 use Rattle.std.specs.Prelude.{◌≡◌, ℕ, true, List, map}
 use Rattle.rx_model.specs.Common.{IsIri, Among, Triple}
-use Rattle.rx_nquads.specs.Quads.{proper_triple, IsProper}
+use Rattle.rx_nquads.specs.Quads.{proper_triple}
 use Rattle.rx_pieces.specs.Writable.{IsWritable}
 use Rattle.rx_notation.specs.Short.{Prefix, Prefixes, names_rise}
 use Rattle.rx_notation.specs.Layout.{used, those_among, prefixes_used, turtle}
 use Rattle.rx_notation.specs.Spelling.{names_differ}
 use Rattle.rx_notation.specs.Meaning.{Turtle}
+use Rattle.rx_model.specs.Terms.{IsProper}
 
 -- what a context's prefixes are: each name stands there once, and each has an IRI
 pub record IsContext (context : Prefixes) : Type 0 where

@@ -4,7 +4,7 @@ use Rattle.std.specs.Prelude.{ℕ, Bool, ◌&&◌, List, [], ◌∷◌, ◌++◌
 use Rattle.rx_model.specs.Common.{Chars, contains, Kind, Plain, Tagged, Typed, Node, Iri, Blank, Term, Resource, Literal, Triple, rdf_type}
 use Rattle.rx_shapes.specs.Subjects.{subjects, predicates_of, objects_of}
 use Rattle.rx_pieces.specs.Writing.{string_text, iri_text, blank_text}
-use Rattle.rx_notation.specs.Short.{Prefix, Prefixes, is_before, prefix_of, short_text}
+use Rattle.rx_notation.specs.Short.{Prefix, Prefixes, is_byte_less, prefix_of, short_text}
 
 -- ---- terms
 
@@ -21,17 +21,17 @@ resource_text context (Iri iri) = short_iri context iri
 resource_text context (Blank number) = blank_text number
 
 -- rdf:type as a predicate is written `a`
-abbrev pub verb_text : Prefixes → Chars → Chars
-verb_text context predicate = if bytes_eq predicate rdf_type then codes "a" else short_iri context predicate
+abbrev pub short_predicate : Prefixes → Chars → Chars
+short_predicate context predicate = if bytes_eq predicate rdf_type then codes "a" else short_iri context predicate
 
-abbrev pub suffix_text : Prefixes → Kind → Chars
-suffix_text context Plain = []
-suffix_text context (Tagged tag) = codes "@" ++ tag
-suffix_text context (Typed datatype) = codes "^^" ++ short_iri context datatype
+abbrev pub kind_suffix : Prefixes → Kind → Chars
+kind_suffix context Plain = []
+kind_suffix context (Tagged tag) = codes "@" ++ tag
+kind_suffix context (Typed datatype) = codes "^^" ++ short_iri context datatype
 
 abbrev pub object_text : Prefixes → Term ℕ → Chars
 object_text context (Resource node) = resource_text context node
-object_text context (Literal text kind) = string_text text ++ suffix_text context kind
+object_text context (Literal text kind) = string_text text ++ kind_suffix context kind
 
 -- ---- what is said of a subject
 
@@ -43,7 +43,7 @@ separated between (text ∷ more) = text ++ flat_map (λ next. between ++ next) 
 -- a predicate and its objects
 abbrev pub predicate_text : Prefixes → List (Triple ℕ) → Node ℕ → Chars → Chars
 predicate_text context list node predicate =
-    verb_text context predicate ++ (codes " " ++ separated (codes " , ") (map (object_text context) (objects_of list node predicate)))
+    short_predicate context predicate ++ (codes " " ++ separated (codes " , ") (map (object_text context) (objects_of list node predicate)))
 
 -- all that is said of a subject, ended by a full stop and LF
 abbrev pub statement_text : Prefixes → List (Triple ℕ) → Node ℕ → Chars
@@ -83,14 +83,14 @@ same_prefix a b = bytes_eq a.0 b.0 && bytes_eq a.1 b.1
 abbrev pub those_among : Prefixes → Prefixes → Prefixes
 those_among some context = filter (contains same_prefix some) context
 
-abbrev pub placed : Prefix → Prefixes → Prefixes
-placed prefix [] = prefix ∷ []
-placed prefix (first ∷ more) = if is_before first.0 prefix.0 then first ∷ placed prefix more else prefix ∷ first ∷ more
+abbrev pub prefix_placed : Prefix → Prefixes → Prefixes
+prefix_placed prefix [] = prefix ∷ []
+prefix_placed prefix (first ∷ more) = if is_byte_less first.0 prefix.0 then first ∷ prefix_placed prefix more else prefix ∷ first ∷ more
 
 -- the prefixes in byte order of their names
 abbrev pub in_byte_order : Prefixes → Prefixes
 in_byte_order [] = []
-in_byte_order (prefix ∷ more) = placed prefix (in_byte_order more)
+in_byte_order (prefix ∷ more) = prefix_placed prefix (in_byte_order more)
 
 -- the prefixes of the context that the text of the list uses, in byte order of their names
 abbrev pub prefixes_used : Prefixes → List (Triple ℕ) → Prefixes

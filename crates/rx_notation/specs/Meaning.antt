@@ -1,19 +1,10 @@
 -- What a document denotes: RDF 1.1 Turtle, 7.
-use Rattle.std.specs.Prelude.{◌≡◌, ◌↔◌, ℕ, suc, ◌+◌, Bool, true, ◌&&◌, List, [], ◌∷◌, ◌++◌, codes, bytes_eq, if◌then◌else◌}
-use Rattle.rx_model.specs.Common.{list_all, list_any, Chars, Among, Kind, Plain, Tagged, Node, Iri, Blank, Term, Resource, Literal, Triple, set_of, spo, rdf_type, Renamed}
-use Rattle.rx_nquads.specs.Quads.{kind_of}
+use Rattle.std.specs.Prelude.{◌≡◌, ◌↔◌, ℕ, suc, ◌+◌, Bool, true, ◌&&◌, List, [], ◌∷◌, ◌++◌, bytes_eq, if◌then◌else◌}
+use Rattle.rx_model.specs.Common.{list_all, list_any, Chars, Among, Kind, Plain, Tagged, Node, Iri, Blank, Term, Resource, Literal, Triple, set_of, spo, rdf_type, rdf_first, rdf_rest, rdf_nil, Renamed}
+use Rattle.rx_nquads.specs.Quads.{literal_kind}
 use Rattle.rx_notation.specs.Short.{Prefix, Prefixes}
-use Rattle.rx_notation.specs.Syntax.{Reference, Full, Short, Subject, Named, Labelled, Verb, By, Type_of, Suffix, Bare, Language, Datatype, Sort, Object, Objects, Items, Predicates, Further, Part, IriOrLabel, Quoted, Anonymous, Nil, Bracketed, Collection, Single, Comma, Last, Item, Predicate, Done, Semicolon, Also, Statement, Document, are_flat}
-use Rattle.rx_notation.specs.Spelling.{Spells}
-
-abbrev pub rdf_first : Chars
-rdf_first = codes "http://www.w3.org/1999/02/22-rdf-syntax-ns#first"
-
-abbrev pub rdf_rest : Chars
-rdf_rest = codes "http://www.w3.org/1999/02/22-rdf-syntax-ns#rest"
-
-abbrev pub rdf_nil : Chars
-rdf_nil = codes "http://www.w3.org/1999/02/22-rdf-syntax-ns#nil"
+use Rattle.rx_notation.specs.Syntax.{Reference, Full, Short, Subject, Named, Labelled, Verb, By, Type_of, Suffix, Bare, Language, Datatype, Sort, Object, Objects, Items, Predicates, Further, Part, IriOrLabel, Quoted, Anonymous, Nil, Bracketed, Collection, Single, Comma, Last, Item, Predicate, Done, Semicolon, Also, Statement, TurtleDocument, are_flat}
+use Rattle.rx_notation.specs.Spelling.{SpellsTurtle}
 
 -- ---- IRIs
 
@@ -73,7 +64,7 @@ module _ (prefixes : Prefixes) where
   abbrev pub kind_by : Suffix → Kind
   kind_by Bare = Plain
   kind_by (Language tag) = Tagged tag
-  kind_by (Datatype reference) = kind_of (iri_of reference)
+  kind_by (Datatype reference) = literal_kind (iri_of reference)
 
 -- ---- triples
 
@@ -149,28 +140,28 @@ module _ {B : Type 0} (prefixes : Prefixes) (label place : ℕ → B) where
 -- The text denotes the set of these triples: it is that of a document without brackets and parentheses, whose prefixes are
 -- all declared, and the triples are the document's. Blank nodes are named by their labels.
 pub record Turtle (text : Chars) (graph : List (Triple ℕ)) : Type 0 where
-  pub document : Document
-  pub spells : Spells text document
+  pub document : TurtleDocument
+  pub spells : SpellsTurtle text document
   pub flat : are_flat document.statements ≡ true
   pub known : are_known document.prefixes document.statements ≡ true
   pub stated : (t : Triple ℕ) → Among graph t ↔ Among (all_triples document.prefixes (λ number. number) (λ n. n) document.statements 0) t
 
 -- the blank nodes of a document
-pub data Name : Type 0 where
-  Label : ℕ → Name
-  Place : ℕ → Name
+pub data TurtleBlank : Type 0 where
+  Label : ℕ → TurtleBlank
+  Place : ℕ → TurtleBlank
 
 -- The same with brackets and parentheses, each of which stands for new blank nodes: the graph is the document's with its
 -- blank nodes renamed one to one.
 pub record NestedTurtle (text : Chars) (graph : List (Triple ℕ)) : Type 0 where
-  pub document : Document
-  pub spells : Spells text document
+  pub document : TurtleDocument
+  pub spells : SpellsTurtle text document
   pub known : are_known document.prefixes document.statements ≡ true
   pub renamed : Renamed (set_of (all_triples document.prefixes Label Place document.statements 0)) (set_of graph)
 
 -- law: a text without brackets and parentheses denotes at most one set
-abbrev pub DenotesOne : Type 0
-DenotesOne = (text : Chars) (xs ys : List (Triple ℕ)) → Turtle text xs → Turtle text ys → (t : Triple ℕ) → Among xs t ↔ Among ys t
+abbrev pub TurtleDenotesOne : Type 0
+TurtleDenotesOne = (text : Chars) (xs ys : List (Triple ℕ)) → Turtle text xs → Turtle text ys → (t : Triple ℕ) → Among xs t ↔ Among ys t
 
 -- law: two graphs that one text denotes differ in the names of blank nodes alone
 abbrev pub NestedDenotesOne : Type 0

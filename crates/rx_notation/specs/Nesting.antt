@@ -7,7 +7,7 @@ use Rattle.rx_shapes.specs.declared.shapes.Shape.TheVariants as shape
 use Rattle.rx_notation.specs.Short.{Prefix, Prefixes, prefix_of, local_name}
 use Rattle.rx_notation.specs.Layout.{in_byte_order}
 use Rattle.rx_shapes.specs.Subjects.{subjects, predicates_of, objects_of}
-use Rattle.rx_notation.specs.Syntax.{Reference, Full, Short, Subject, Named, Labelled, Verb, By, Type_of, Suffix, Bare, Language, Datatype, Object, Objects, Items, Predicates, Part, IriOrLabel, Quoted, Anonymous, Nil, Bracketed, Collection, Single, Comma, Last, Item, Predicate, Done, Also, Statement, Document}
+use Rattle.rx_notation.specs.Syntax.{Reference, Full, Short, Subject, Named, Labelled, Verb, By, Type_of, Suffix, Bare, Language, Datatype, Object, Objects, Items, Predicates, Part, IriOrLabel, Quoted, Anonymous, Nil, Bracketed, Collection, Single, Comma, Last, Item, Predicate, Done, Also, Statement, TurtleDocument}
 use Rattle.rx_notation.specs.Writing.{Piece, words, subject, verb, quoted, all_pieces, document_text}
 
 -- ---- lists of parts, of which each has at least one
@@ -33,8 +33,8 @@ items_by cell item (Resource (Iri iri) ∷ more) = Last item
 items_by cell item (Literal text kind ∷ more) = Last item
 
 -- a cell, and those behind it, by what the item and the next cell are written as
-abbrev pub cells : (Term ℕ → Part Object) → (ℕ → Part Items) → List (Triple ℕ) → ℕ → Part Items
-cells object cell list number = items_by cell (one_object object (objects_of list (Blank number) rdf_first)) (objects_of list (Blank number) rdf_rest)
+abbrev pub cell_items : (Term ℕ → Part Object) → (ℕ → Part Items) → List (Triple ℕ) → ℕ → Part Items
+cell_items object cell list number = items_by cell (one_object object (objects_of list (Blank number) rdf_first)) (objects_of list (Blank number) rdf_rest)
 
 -- ---- which subjects have statements: all but the nodes that are written where they are used
 
@@ -105,7 +105,7 @@ module _ (context : Prefixes) where
     abbrev pub node_by : (Term ℕ → Part Object) → (ℕ → Part Items) → Shape → ℕ → Part Object
     node_by object cell shape.Labelled number = IriOrLabel (Labelled number)
     node_by object cell shape.Inside number = inside object list (Blank number)
-    node_by object cell shape.Cell number = Collection (cells object cell list number)
+    node_by object cell shape.Cell number = Collection (cell_items object cell list number)
 
     -- a blank node where it is used, by itself and as a cell among others, in which so many nodes may nest. In a list no
     -- more nest than it has triples
@@ -113,7 +113,7 @@ module _ (context : Prefixes) where
     written zero number = (IriOrLabel (Labelled number), Last Anonymous)
     written (suc left) number = (
       node_by (object_by (λ n. (written left n).0)) (λ n. (written left n).1) (shapes number) number,
-      cells (object_by (λ n. (written left n).0)) (λ n. (written left n).1) list number,
+      cell_items (object_by (λ n. (written left n).0)) (λ n. (written left n).1) list number,
     )
 
     abbrev pub object_at : Term ℕ → Part Object
@@ -129,22 +129,22 @@ module _ (context : Prefixes) where
 
 -- ---- the prefixes that statements use
 
-abbrev pub name_in : Reference → List Chars
-name_in (Full iri) = []
-name_in (Short name local) = name ∷ []
+abbrev pub prefix_named : Reference → List Chars
+prefix_named (Full iri) = []
+prefix_named (Short name local) = name ∷ []
 
 abbrev pub names_of_subject : Subject → List Chars
-names_of_subject (Named reference) = name_in reference
+names_of_subject (Named reference) = prefix_named reference
 names_of_subject (Labelled number) = []
 
 abbrev pub names_of_verb : Verb → List Chars
-names_of_verb (By reference) = name_in reference
+names_of_verb (By reference) = prefix_named reference
 names_of_verb Type_of = []
 
 abbrev pub names_of_suffix : Suffix → List Chars
 names_of_suffix Bare = []
 names_of_suffix (Language tag) = []
-names_of_suffix (Datatype reference) = name_in reference
+names_of_suffix (Datatype reference) = prefix_named reference
 
 abbrev pub piece_names : Piece → List Chars
 piece_names (words chars) = []
@@ -161,7 +161,7 @@ prefixes_named context names = in_byte_order (filter (λ (prefix : Prefix). cont
 
 -- ---- the text
 
-abbrev pub document_of : Prefixes → List (Triple ℕ) → (ℕ → Shape) → Document
+abbrev pub document_of : Prefixes → List (Triple ℕ) → (ℕ → Shape) → TurtleDocument
 document_of context list shapes =
     record { prefixes = prefixes_named context (names_used (statements context list shapes)); statements = statements context list shapes }
 

@@ -31,12 +31,12 @@ abbrev pub shortens : Chars → Prefix → Bool
 shortens iri prefix = is_prefix_name prefix.0 && (begins_with prefix.1 iri && is_local_name (local_name prefix iri))
 
 -- the order of the texts' UTF-8 forms
-abbrev pub is_before : Chars → Chars → Bool
-is_before a b = is_lt (slice_cmp nat_cmp (encode_utf8_all a) (encode_utf8_all b))
+abbrev pub is_byte_less : Chars → Chars → Bool
+is_byte_less a b = is_lt (slice_cmp nat_cmp (encode_utf8_all a) (encode_utf8_all b))
 
 -- the longer IRI is taken, and of equally long ones the name that is less in byte order
 abbrev pub is_preferred : Prefix → Prefix → Bool
-is_preferred a b = nat_lt (length b.1) (length a.1) || (length a.1 == length b.1 && is_before a.0 b.0)
+is_preferred a b = nat_lt (length b.1) (length a.1) || (length a.1 == length b.1 && is_byte_less a.0 b.0)
 
 abbrev pub preferred : Prefix → Option Prefix → Prefix
 preferred prefix None = prefix
@@ -58,4 +58,4 @@ short_text prefix iri = prefix.0 ++ (codes ":" ++ local_name prefix iri)
 -- the names rise in byte order
 abbrev pub names_rise : Prefixes → Bool
 names_rise [] = true
-names_rise (prefix ∷ more) = list_all (λ (later : Prefix). is_before prefix.0 later.0) more && names_rise more
+names_rise (prefix ∷ more) = list_all (λ (later : Prefix). is_byte_less prefix.0 later.0) more && names_rise more

@@ -4,8 +4,8 @@ use Rattle.std.specs.Prelude.{◌≡◌, ℕ, Bool, true, not, ◌&&◌, ◌||�
 use Rattle.rx_model.specs.Common.{list_all, line_feed, space, quotation_mark, colon, commercial_at, circumflex_accent, Chars, is_empty, is_lang, contains}
 use Rattle.rx_nquads.specs.Spelling.{SpellsIri, SpellsLabel, SpellsString}
 use Rattle.rx_notation.specs.Short.{Prefix, is_prefix_name, is_local_name}
-use Rattle.rx_notation.specs.Syntax.{Reference, Full, Short, Subject, Named, Labelled, Suffix, Bare, Language, Datatype, Document}
-use Rattle.rx_notation.specs.Grammar.{Terminal, At_prefix, Small_a, Full_stop, Semicolon_sign, Comma_sign, Left_bracket, Right_bracket, Brackets, Left_parenthesis, Right_parenthesis, Parentheses, Token, terminal, declared, iri_or_label, quoted, document_tokens}
+use Rattle.rx_notation.specs.Syntax.{Reference, Full, Short, Subject, Named, Labelled, Suffix, Bare, Language, Datatype, TurtleDocument}
+use Rattle.rx_notation.specs.Grammar.{Terminal, At_prefix, Small_a, Full_stop, Semicolon_sign, Comma_sign, Left_bracket, Right_bracket, Brackets, Left_parenthesis, Right_parenthesis, Parentheses, TurtleToken, terminal, declared, iri_or_label, quoted, document_tokens}
 
 -- ---- tokens
 
@@ -23,7 +23,7 @@ terminal_text Right_parenthesis = codes ")"
 terminal_text Parentheses = codes "()"
 
 -- PNAME_NS
-pub record SpellsName (spelling name : Chars) : Type 0 where
+pub record SpellsPrefix (spelling name : Chars) : Type 0 where
   pub is_name : is_prefix_name name ≡ true
   pub spelled : spelling ≡ name ++ colon ∷ []
 
@@ -55,9 +55,9 @@ pub record SpellsQuoted (spelling text : Chars) (suffix : Suffix) : Type 0 where
   pub suffix_spelled : SpellsSuffix behind suffix
   pub spelled : spelling ≡ quotation_mark ∷ (inside ++ quotation_mark ∷ behind)
 
-abbrev pub SpellsToken : Chars → Token → Type 0
+abbrev pub SpellsToken : Chars → TurtleToken → Type 0
 SpellsToken spelling (terminal s) = spelling ≡ terminal_text s
-SpellsToken spelling (declared name) = SpellsName spelling name
+SpellsToken spelling (declared name) = SpellsPrefix spelling name
 SpellsToken spelling (iri_or_label subject) = SpellsSubject spelling subject
 SpellsToken spelling (quoted text suffix) = SpellsQuoted spelling text suffix
 
@@ -67,17 +67,17 @@ abbrev pub is_separator : ℕ → Bool
 is_separator c = c == space || c == line_feed
 
 -- one or more spaces and line feeds (own)
-abbrev pub is_gap : Chars → Bool
-is_gap gap = not (is_empty gap) && list_all is_separator gap
+abbrev pub is_spacing : Chars → Bool
+is_spacing gap = not (is_empty gap) && list_all is_separator gap
 
 -- what stands behind a token: a line feed behind the last one, else a gap and the next one (own)
-abbrev pub SpellsBehind : Chars → List Token → Type 0
+abbrev pub SpellsBehind : Chars → List TurtleToken → Type 0
 SpellsBehind text [] = text ≡ line_feed ∷ []
 SpellsBehind text (token ∷ more) =
-    (gap spelling rest : Chars) × (is_gap gap ≡ true) × SpellsToken spelling token × SpellsBehind rest more × (text ≡ gap ++ (spelling ++ rest))
+    (gap spelling rest : Chars) × (is_spacing gap ≡ true) × SpellsToken spelling token × SpellsBehind rest more × (text ≡ gap ++ (spelling ++ rest))
 
 -- the text begins with the first token; where there is none it is empty
-abbrev pub SpellsTokens : Chars → List Token → Type 0
+abbrev pub SpellsTokens : Chars → List TurtleToken → Type 0
 SpellsTokens text [] = text ≡ []
 SpellsTokens text (token ∷ more) = (spelling rest : Chars) × SpellsToken spelling token × SpellsBehind rest more × (text ≡ spelling ++ rest)
 
@@ -86,10 +86,10 @@ names_differ [] = true
 names_differ (name ∷ more) = not (contains bytes_eq more name) && names_differ more
 
 -- the text is that of the document, which declares each name once (own)
-pub record Spells (text : Chars) (document : Document) : Type 0 where
+pub record SpellsTurtle (text : Chars) (document : TurtleDocument) : Type 0 where
   pub spelled : SpellsTokens text (document_tokens document)
   pub once : names_differ (map (λ (prefix : Prefix). prefix.0) document.prefixes) ≡ true
 
 -- law: a text spells at most one document
-abbrev pub SpellsOne : Type 0
-SpellsOne = (text : Chars) (a b : Document) → Spells text a → Spells text b → a ≡ b
+abbrev pub TurtleSpellsOne : Type 0
+TurtleSpellsOne = (text : Chars) (a b : TurtleDocument) → SpellsTurtle text a → SpellsTurtle text b → a ≡ b

@@ -61,7 +61,7 @@ pub record Statement : Type 0 where
   pub predicates : Part Predicates
 
 -- [1] turtleDoc
-pub record Document : Type 0 where
+pub record TurtleDocument : Type 0 where
   pub prefixes : Prefixes
   pub statements : List Statement
 

@@ -1,32 +1,33 @@
 -- Worked examples of what texts denote.
 use Rattle.std.specs.Prelude.{◌≡◌, ℕ, true, List, [], ◌∷◌, ◌++◌, codes}
 use Rattle.rx_model.specs.Common.{Chars, Plain, Tagged, Typed, Node, Iri, Blank, Term, Resource, Literal, Triple, spo, rdf_type}
-use Rattle.rx_notation.specs.Syntax.{Full, Short, Subject, Named, Labelled, By, Type_of, Bare, Language, Datatype, Part, Object, IriOrLabel, Quoted, Anonymous, Nil, Bracketed, Collection, Single, Comma, Last, Item, Predicate, Done, Semicolon, Also, Document}
-use Rattle.rx_notation.specs.Spelling.{Spells}
-use Rattle.rx_notation.specs.Meaning.{rdf_first, rdf_rest, rdf_nil, are_known, all_triples, Turtle, Name, Label, Place, NestedTurtle}
+use Rattle.rx_notation.specs.Syntax.{Full, Short, Subject, Named, Labelled, By, Type_of, Bare, Language, Datatype, Part, Object, IriOrLabel, Quoted, Anonymous, Nil, Bracketed, Collection, Single, Comma, Last, Item, Predicate, Done, Semicolon, Also, TurtleDocument}
+use Rattle.rx_notation.specs.Spelling.{SpellsTurtle}
+use Rattle.rx_model.specs.Vocabulary.{rdf_first, rdf_rest, rdf_nil}
+use Rattle.rx_notation.specs.Meaning.{are_known, all_triples, Turtle, TurtleBlank, Label, Place, NestedTurtle}
 use Rattle.rx_notation.specs.Rows.{v, schema}
 
 -- a text, its document, and the document's triples
 pub record Reading : Type 0 where
   pub text : Chars
-  pub document : Document
-  pub triples : List (Triple Name)
+  pub document : TurtleDocument
+  pub triples : List (Triple TurtleBlank)
 
 pub record Reads (r : Reading) : Type 0 where
-  pub spells : Spells r.text r.document
+  pub spells : SpellsTurtle r.text r.document
   pub known : are_known r.document.prefixes r.document.statements ≡ true
   pub means : all_triples r.document.prefixes Label Place r.document.statements 0 ≡ r.triples
 
-abbrev pub place : ℕ → Node Name
+abbrev pub place : ℕ → Node TurtleBlank
 place n = Blank (Place n)
 
-abbrev pub labelled : ℕ → Node Name
+abbrev pub labelled : ℕ → Node TurtleBlank
 labelled n = Blank (Label n)
 
-abbrev pub thing : Chars → Term Name
+abbrev pub thing : Chars → Term TurtleBlank
 thing iri = Resource (Iri iri)
 
-abbrev pub plain : Chars → Term Name
+abbrev pub plain : Chars → Term TurtleBlank
 plain text = Literal text Plain
 
 abbrev pub string : Chars → Part Object

@@ -4,7 +4,7 @@ use Rattle.std.specs.Prelude.{List, [], ◌∷◌, ◌++◌, flat_map, codes}
 use Rattle.rx_terms.specs.Text.{Chars}
 use Rattle.rx_pieces.specs.Writing.{string_text, iri_text, blank_text}
 use Rattle.rx_notation.specs.Layout.{prefixes_text}
-use Rattle.rx_notation.specs.Syntax.{Reference, Full, Short, Subject, Named, Labelled, Verb, By, Type_of, Suffix, Bare, Language, Datatype, Sort, Part, IriOrLabel, Quoted, Anonymous, Nil, Bracketed, Collection, Single, Comma, Last, Item, Predicate, Done, Semicolon, Also, Statement, Document}
+use Rattle.rx_notation.specs.Syntax.{Reference, Full, Short, Subject, Named, Labelled, Verb, By, Type_of, Suffix, Bare, Language, Datatype, Sort, Part, IriOrLabel, Quoted, Anonymous, Nil, Bracketed, Collection, Single, Comma, Last, Item, Predicate, Done, Semicolon, Also, Statement, TurtleDocument}
 
 abbrev pub reference_text : Reference → Chars
 reference_text (Full iri) = iri_text iri
@@ -67,5 +67,5 @@ abbrev pub all_pieces : List Statement → List Piece
 all_pieces [] = []
 all_pieces (s ∷ more) = statement_pieces s (all_pieces more)
 
-abbrev pub document_text : Document → Chars
+abbrev pub document_text : TurtleDocument → Chars
 document_text document = prefixes_text document.prefixes ++ flat_map piece_text (all_pieces document.statements)

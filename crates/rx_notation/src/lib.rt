@@ -6,10 +6,10 @@
 
 ghost use Rattle.rx_notation.specs.Grammar.{TokensOfOne};
 ghost use Rattle.rx_notation.specs.Laws.{LayoutDenotes, RisingContexts};
-ghost use Rattle.rx_notation.specs.Meaning.{DenotesOne, FlatIsNested, NestedDenotesOne};
+ghost use Rattle.rx_notation.specs.Meaning.{FlatIsNested, NestedDenotesOne, TurtleDenotesOne};
 ghost use Rattle.rx_notation.specs.NestedLaws.{NestedDenotes};
 ghost use Rattle.rx_notation.specs.Rows.{NestedRowsHold, RowsHold};
-ghost use Rattle.rx_notation.specs.Spelling.{SpellsOne};
+ghost use Rattle.rx_notation.specs.Spelling.{TurtleSpellsOne};
 ghost use Rattle.rx_notation.specs.Texts.{TextsHold};
 
 /// The worked examples of the layout hold.
@@ -29,12 +29,12 @@ pub fn tokens_are_of_one()
 
 /// A text spells at most one document.
 pub fn a_text_spells_one()
-    ensures { SpellsOne }
+    ensures { TurtleSpellsOne }
 {}
 
 /// A text without brackets and parentheses denotes at most one set of triples.
 pub fn a_text_denotes_one()
-    ensures { DenotesOne }
+    ensures { TurtleDenotesOne }
 {}
 
 /// Two graphs that one text denotes differ in the names of blank nodes alone.

@@ -1,7 +1,7 @@
 -- What a text denotes whose parts denote something: of one line, and of one text behind another.
 use Rattle.rx_model.proofs.Common.{◌≡◌, ◌⊎◌, ℕ, true, List, [], ◌∷◌, ◌++◌, Option, refl, sym, ap, ◌∙◌, inl, inr, subst, append-nil, arith, None, line_feed, number_sign, Chars, flat_map-append, Among, Triple, Among_cases, Among_left, Among_right}
 use Rattle.rx_nquads.specs.Quads.{Quad, quad_of}
-use Rattle.rx_nquads.specs.Document.{States, SaysNothing, Nquads, joined_lines, has_no_line_feed}
+use Rattle.rx_nquads.specs.Document.{States, HasNoStatement, Nquads, joined_lines, has_no_line_feed}
 use Rattle.rx_nquads.specs.Writing.{line_text}
 use Rattle.rx_pieces.specs.Writable.{WritableTriple}
 use Rattle.rx_nquads.proofs.Cuts.{lacks}
@@ -32,7 +32,7 @@ denotes_comment line h =
       lines = whole ∷ [];
       ended = one_line whole;
       unbroken = λ other m. subst (λ (z : Chars). has_no_line_feed z ≡ true) (only whole other m) h;
-      each = λ other m. inl (subst (λ (z : Chars). SaysNothing z) (only whole other m) refl);
+      each = λ other m. inl (subst (λ (z : Chars). HasNoStatement z) (only whole other m) refl);
       stated = λ q. (λ m. absurd m, λ s. absurd (no_statement line q (subst (λ (z : Chars). States z q) (sym (only whole s.0 s.1)) s.2)));
     }
 

@@ -3,7 +3,7 @@ use Rattle.rx_model.proofs.Common.{◌≡◌, ℕ, Bool, true, false, ◌≢◌,
 use Rattle.std.proofs.lemmas.Bool.{and_from, or_left, or_right}
 use Rattle.std.specs.Str.Parse.{AllDigits, digits_value}
 use Rattle.rx_terms.proofs.LangLemmas.{is_left, left-start, left-hyphen, left-empty, left-char, left-other}
-use Rattle.rx_nquads.specs.Quads.{kind_of}
+use Rattle.rx_nquads.specs.Quads.{literal_kind}
 use Rattle.rx_nquads.specs.Spelling.{SpellsIri, SpellsLabel, SpellsNode, stands_for_itself, escape, SpellsString, nothing, itself, escaped, SpellsKind, plain, tagged, typed, SpellsLiteral, SpellsTerm}
 use Rattle.rx_nquads.specs.Document.{SpellsGraph, StatesOne, DenotesOne, joined_lines, has_no_line_feed}
 use Rattle.rx_nquads.proofs.Cuts.{lacks, differs, cut, lacks_append, differs_where, lacks_where, lacks_any}
@@ -98,7 +98,7 @@ one_node s r (Blank a) (Iri b) e h k =
 one_kind : (s : Chars) (k l : Kind) → SpellsKind s k → SpellsKind s l → k ≡ l
 one_kind _ _ _ plain plain = refl
 one_kind _ _ _ (tagged a h) (tagged _ k) = refl
-one_kind _ _ _ (typed s a h p) (typed _ b k q) = p ∙ ap kind_of (one_iri s s a b refl h k) ∙ sym q
+one_kind _ _ _ (typed s a h p) (typed _ b k q) = p ∙ ap literal_kind (one_iri s s a b refl h k) ∙ sym q
 
 -- ---- a term at the front of a text
 

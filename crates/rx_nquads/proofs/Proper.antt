@@ -1,6 +1,7 @@
 -- A literal that is no typed xsd:string stays as it is.
 use Rattle.rx_model.proofs.Common.{◌≡◌, ◌≢◌, ℕ, refl, ap, bytes_eq, by_test, xsd_string, Kind, Plain, Tagged, Typed, Term, Resource, Literal, exact_texts}
-use Rattle.rx_nquads.specs.Quads.{proper_kind, proper_term, IsProper, ProperStays}
+use Rattle.rx_nquads.specs.Quads.{proper_kind, proper_term, ProperStays}
+use Rattle.rx_model.specs.Terms.{IsProper}
 
 kind_stays : (kind : Kind) → kind ≢ Typed xsd_string → proper_kind kind ≡ kind
 kind_stays Plain h = refl

@@ -22,9 +22,9 @@ pub record States (line : Chars) (q : Quad) : Type 0 where
   pub spelled : line ≡ subject ++ space ∷ (predicate ++ space ∷ (object ++ space ∷ rest))
 
 -- the line says nothing: it is empty, or a comment
-abbrev pub SaysNothing : Chars → Type 0
-SaysNothing [] = Unit {0}
-SaysNothing (c ∷ line) = c ≡ number_sign
+abbrev pub HasNoStatement : Chars → Type 0
+HasNoStatement [] = Unit {0}
+HasNoStatement (c ∷ line) = c ≡ number_sign
 
 abbrev pub has_no_line_feed : Chars → Bool
 has_no_line_feed line = list_all (λ c. not (c == line_feed)) line
@@ -39,7 +39,7 @@ pub record Nquads (text : Chars) (quads : List Quad) : Type 0 where
   pub lines : List Chars
   pub ended : text ≡ joined_lines lines
   pub unbroken : (line : Chars) → Among lines line → has_no_line_feed line ≡ true
-  pub each : (line : Chars) → Among lines line → SaysNothing line ⊎ ((q : Quad) × States line q)
+  pub each : (line : Chars) → Among lines line → HasNoStatement line ⊎ ((q : Quad) × States line q)
   pub stated : (q : Quad) → Among quads q ↔ ((line : Chars) × Among lines line × States line q)
 
 -- law: a line states at most one quad

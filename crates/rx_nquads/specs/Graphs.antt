@@ -12,8 +12,8 @@ lent_name name = option_map (λ iri. iri.now) name
 abbrev pub line_bytes : Option (Bor Chars) → CodeTriple → List ℕ
 line_bytes name triple = encode_utf8_all (line_text (lent_name name) (triple_seen triple))
 
-abbrev pub graph_bytes : List CodeTriple → Option (Bor Chars) → List ℕ
-graph_bytes graph name = encode_utf8_all (nquads (triples_seen graph) (lent_name name))
+abbrev pub document_bytes : List CodeTriple → Option (Bor Chars) → List ℕ
+document_bytes graph name = encode_utf8_all (nquads (triples_seen graph) (lent_name name))
 
 -- these bytes denote the graph's quads
 abbrev pub DenoteGraph : List CodeTriple → Option (Bor Chars) → List ℕ → Type 0

@@ -7,5 +7,5 @@ pub record WrittenLines : Type 0 where
   pub out_of_memory : Bool
 
 -- lines of these bytes, for all of which there was memory
-abbrev pub written : List ℕ → WrittenLines
-written bytes = record { bytes = bytes; out_of_memory = false }
+abbrev pub written_lines : List ℕ → WrittenLines
+written_lines bytes = record { bytes = bytes; out_of_memory = false }

@@ -1,7 +1,7 @@
 -- Quads: RDF 1.1 Concepts, 4. Blank nodes are numbers.
-use Rattle.std.specs.Prelude.{◌≡◌, ◌≢◌, ℕ, List, map, Option, option_map, bytes_eq, if◌then◌else◌}
+use Rattle.std.specs.Prelude.{◌≡◌, ℕ, List, map, Option, option_map, bytes_eq, if◌then◌else◌}
 use Rattle.rx_terms.specs.Common.{Chars, xsd_string}
-use Rattle.rx_model.specs.Terms.{Kind, Plain, Tagged, Typed, Node, Iri, Term, Resource, Literal, Triple}
+use Rattle.rx_model.specs.Terms.{Kind, Plain, Tagged, Typed, Node, Iri, Term, Resource, Literal, Triple, IsProper}
 
 -- a triple in the graph of a name, or in the default graph
 pub record Quad : Type 0 where
@@ -9,13 +9,13 @@ pub record Quad : Type 0 where
   pub graph : Option (Node ℕ)
 
 -- what a literal of a datatype has beside its characters: one of xsd:string is plain (RDF 1.1 Concepts, 3.3)
-abbrev pub kind_of : Chars → Kind
-kind_of datatype = if bytes_eq datatype xsd_string then Plain else Typed datatype
+abbrev pub literal_kind : Chars → Kind
+literal_kind datatype = if bytes_eq datatype xsd_string then Plain else Typed datatype
 
 abbrev pub proper_kind : Kind → Kind
 proper_kind Plain = Plain
 proper_kind (Tagged tag) = Tagged tag
-proper_kind (Typed datatype) = kind_of datatype
+proper_kind (Typed datatype) = literal_kind datatype
 
 abbrev pub proper_term : Term ℕ → Term ℕ
 proper_term (Resource node) = Resource node
@@ -35,11 +35,6 @@ quad_of name t = record {
 -- the quads of a list of triples, all in the graph of one name
 abbrev pub quads : List (Triple ℕ) → Option Chars → List Quad
 quads list name = map (quad_of name) list
-
--- a term that is no xsd:string written as a typed literal
-abbrev pub IsProper : Term ℕ → Type 0
-IsProper (Resource node) = Unit {0}
-IsProper (Literal text kind) = kind ≢ Typed xsd_string
 
 -- law: the quad of a triple whose object is proper has that triple
 abbrev pub ProperStays : Type 0

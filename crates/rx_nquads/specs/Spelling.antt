@@ -4,15 +4,13 @@
 use Rattle.std.specs.Prelude.{◌≡◌, ℕ, Bool, true, false, not, ◌||◌, ◌==◌, [], ◌∷◌, ◌++◌, codes, Option, Some, None, if◌then◌else◌}
 use Rattle.std.specs.Str.Parse.{IsNumeral, digits_value}
 use Rattle.rx_model.specs.Common.{line_feed, carriage_return, quotation_mark, reverse_solidus, less_than_sign, greater_than_sign, commercial_at, circumflex_accent, Chars, IsIri, is_lang, Kind, Plain, Tagged, Node, Iri, Blank, Term, Resource, Literal}
-use Rattle.rx_nquads.specs.Quads.{kind_of}
+use Rattle.rx_nquads.specs.Quads.{literal_kind}
+use Rattle.rx_terms.specs.Ascii.{digit_zero}
 
 -- IRIREF: `<`, an IRI and `>`
 pub record SpellsIri (spelling : Chars) (iri : Chars) : Type 0 where
   pub is_iri : IsIri iri
   pub spelled : spelling ≡ less_than_sign ∷ (iri ++ greater_than_sign ∷ [])
-
-abbrev pub digit_zero : ℕ
-digit_zero = 48
 
 abbrev pub small_n : ℕ
 small_n = 110
@@ -61,7 +59,7 @@ pub data SpellsString : Chars → Chars → Type 0 where
 pub data SpellsKind : Chars → Kind → Type 0 where
   plain : SpellsKind [] Plain
   tagged : (tag : Chars) → is_lang tag ≡ true → SpellsKind (commercial_at ∷ tag) (Tagged tag)
-  typed : (spelling datatype : Chars) {kind : Kind} → SpellsIri spelling datatype → kind ≡ kind_of datatype
+  typed : (spelling datatype : Chars) {kind : Kind} → SpellsIri spelling datatype → kind ≡ literal_kind datatype
       → SpellsKind (circumflex_accent ∷ circumflex_accent ∷ spelling) kind
 
 -- STRING_LITERAL_QUOTE with what follows it

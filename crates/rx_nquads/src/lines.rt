@@ -2,7 +2,7 @@
 ghost use Rattle.std.specs.Prelude.{◌≡◌, ◌++◌, [], option_map, true, IfOk, IsErr, OnErr, OnOk, encode_utf8_all};
 ghost use Rattle.rx_model.specs.Seen.{triple_seen};
 ghost use Rattle.rx_nquads.specs.Graphs.{lent_name, line_bytes};
-ghost use Rattle.rx_nquads.specs.Lines.{written};
+ghost use Rattle.rx_nquads.specs.Lines.{written_lines};
 ghost use Rattle.rx_pieces.specs.Writable.{WritableTriple};
 
 use crate::writing::push_line;
@@ -32,7 +32,7 @@ impl Model for Lines {
 impl Lines {
     /// No line.
     pub fn new(alloc: Global) -> Result<Lines, NoMemory>
-        ensures { IfOk result (λ lines. lines ≡ written []) }
+        ensures { IfOk result (λ lines. lines ≡ written_lines []) }
     {
         let whole = Whole::with_room(alloc, 0)?;
         let Ok(pieces) = Pieces::new(alloc) else {
@@ -44,7 +44,7 @@ impl Lines {
 
     /// Adds the line of a triple, its quad in the graph of this name where one is given.
     pub fn put(&mut self, triple: &Triple, name: Option<&Iri>) -> Result<(), NoMemory>
-        ensures line { OnOk result (self.new ≡ written (self.old.bytes ++ line_bytes name.entry triple.now)) }
+        ensures line { OnOk result (self.new ≡ written_lines (self.old.bytes ++ line_bytes name.entry triple.now)) }
         ensures writable { OnOk result (WritableTriple (lent_name name.entry) (triple_seen triple.now)) }
         ensures out_of_memory { OnErr result (self.new.out_of_memory ≡ true) }
         ensures spent { self.old.out_of_memory ≡ true → IsErr result × (self.new ≡ self.old) }
@@ -62,7 +62,7 @@ impl Lines {
 
     /// Adds bytes, as those of a comment.
     pub fn put_bytes(&mut self, bytes: &[u8]) -> Result<(), NoMemory>
-        ensures bytes { OnOk result (self.new ≡ written (self.old.bytes ++ bytes.now)) }
+        ensures bytes { OnOk result (self.new ≡ written_lines (self.old.bytes ++ bytes.now)) }
         ensures out_of_memory { OnErr result (self.new.out_of_memory ≡ true) }
         ensures spent { self.old.out_of_memory ≡ true → IsErr result × (self.new ≡ self.old) }
     {

@@ -2,7 +2,7 @@
 ghost use Rattle.std.specs.Prelude.{◌≡◌, ◌≤◌, ◌++◌, Err, IfOk, IsErrOf, OnErr, OnOk, encode_utf8_all, option_map, false};
 ghost use Rattle.rx_model.specs.Common.{chars, triple_seen, triples_seen};
 ghost use Rattle.rx_ports.specs.Counts.{Rose};
-ghost use Rattle.rx_nquads.specs.Graphs.{DenoteGraph, graph_bytes, lent_name, line_bytes};
+ghost use Rattle.rx_nquads.specs.Graphs.{DenoteGraph, document_bytes, lent_name, line_bytes};
 ghost use Rattle.rx_nquads.specs.Writing.{graph_text, line_text, nquads};
 ghost use Rattle.rx_pieces.specs.Underway.{Sends, SendsPart};
 ghost use Rattle.rx_pieces.specs.Writable.{Pushes, WritableName, WritableTriple};
@@ -28,9 +28,9 @@ pub fn write<S: Sink>(
     name: Option<&Iri>,
     sink: &mut S,
 ) -> Result<(), WriteError>
-    ensures ok { OnOk result (Sends (graph_bytes graph.now name.entry) (S.held sink.old) (S.held sink.new)) }
-    ensures denotes { OnOk result (DenoteGraph graph.now name.entry (graph_bytes graph.now name.entry)) }
-    ensures partly { IsErrOf result WriteError.Failed → SendsPart (graph_bytes graph.now name.entry) (S.held sink.old) (S.held sink.new) }
+    ensures ok { OnOk result (Sends (document_bytes graph.now name.entry) (S.held sink.old) (S.held sink.new)) }
+    ensures denotes { OnOk result (DenoteGraph graph.now name.entry (document_bytes graph.now name.entry)) }
+    ensures partly { IsErrOf result WriteError.Failed → SendsPart (document_bytes graph.now name.entry) (S.held sink.old) (S.held sink.new) }
     ensures cause { IsErrOf result WriteError.Failed → Rose (S.faults sink.old) (S.faults sink.new) }
     ensures untouched { IsErrOf result WriteError.NoMemory → sink.new ≡ sink.old }
     ensures later { S.faults sink.old ≤ S.faults sink.new }
@@ -44,7 +44,7 @@ pub fn write<S: Sink>(
 
 /// The graph's text in N-Quads, as `write` writes it.
 pub fn text(alloc: Global, graph: &Graph, name: Option<&Iri>) -> Result<Vec<u8>, NoMemory>
-    ensures bytes { IfOk result (λ bytes. bytes.items ≡ graph_bytes graph.now name.entry) }
+    ensures bytes { IfOk result (λ bytes. bytes.items ≡ document_bytes graph.now name.entry) }
     ensures denotes { IfOk result (λ bytes. DenoteGraph graph.now name.entry bytes.items) }
 {
     let mut whole = Whole::with_room(alloc, graph.len().saturating_mul(LINE))?;
@@ -94,7 +94,7 @@ fn line_of(alloc: Global, triple: &Triple, name: Option<&Iri>) -> Result<Vec<u8>
 /// Adds the lines of all triples. Once the sink has failed, the rest isn't made.
 fn push_lines<S: Sink>(out: &mut Pieces, sink: &mut S, graph: &Graph, name: Option<&Iri>)
     ensures adds { Pushes S.held S.faults out.old sink.old out.new sink.new (nquads (triples_seen graph.now) (lent_name name.entry)) }
-    ensures denotes { out.new.failed ≡ false → DenoteGraph graph.now name.entry (graph_bytes graph.now name.entry) }
+    ensures denotes { out.new.failed ≡ false → DenoteGraph graph.now name.entry (document_bytes graph.now name.entry) }
 {
     for i in 0..graph.len() {
         if out.has_failed() {

@@ -1,5 +1,5 @@
 -- The first fault of a page, of its form or of what its start tags mean.
-use Rattle.rx_pages.proofs.Common.{if◌then◌else◌, ◌⊎◌, Fault, Unended, FaultAt, Page, Tree, Progress, page_read, end_of, may_end, fault_in, fault_is_read, page_is_told, one_tree, read_size}
+use Rattle.rx_pages.proofs.Common.{if◌then◌else◌, ◌⊎◌, Fault, Unended, FaultAt, Page, Tree, Progress, page_read, page_ended, page_may_end, fault_in, fault_is_read, page_is_told, one_tree, read_size}
 use Rattle.rx_items.proofs.Common.{Sign, sees, nothing_seen, signs_of, MeaningAt, Refuses, for_form, for_meaning, Way, IsRefusal, ◌≡◌, ◌∙◌, ℕ, Bool, true, false, List, [], ◌∷◌, refl, sym, ap, subst, Option, Some, None, option_map, option_or, Chars, Syntax, Item, Faulty, Rows, first_row, start_rows, end_rows, page_too_long, not_utf8, nul, tag_too_long, known_too_long, decided, unended, Tag, Kind, Limits, read_tag, facts, Context}
 use Rattle.std.proofs.Common.{⊎_elim, inl, inr, ◌≤◌, ◌++◌, length, arith, Result, Ok, Err, length-append}
 use Rattle.rx_pages.proofs.OneOf.{not_both as not_both_at, one_fault}
@@ -13,7 +13,7 @@ use Rattle.rx_grammar.proofs.Common.{Line, Phase, RunFault, unknown, bad, no_ref
 use Rattle.rx_grammar.specs.declared.contents.Content.{Content}
 use Rattle.rx_nest.specs.Signs.{begun, said, finished}
 use Rattle.rx_base.specs.Lines.{line_on}
-use Rattle.rx_curie.specs.Given.{kind_of}
+use Rattle.rx_curie.specs.Given.{kind_of_refusal}
 use Rattle.rx_rdfa.specs.Refusals.{Refusal, RelativeVocab, XmlLiteral, HtmlLiteral, refusal}
 use Rattle.rx_walk.specs.Refused.{refused_in}
 use Rattle.rx_page.specs.Tasks.{is_of_items}
@@ -79,9 +79,9 @@ module _ (way : Way) (law : IsRefusal way.refused) where
       on p final true e = cc
       on p final false e = absurd (cc)
 
-      by : (x : Result Progress Fault) → page_read way.syntax way.limits bytes ≡ x → (final : Progress) → end_of x ≡ Ok final → (sees nothing_seen final.told).signs ≡ signs_of tree → ⊥
+      by : (x : Result Progress Fault) → page_read way.syntax way.limits bytes ≡ x → (final : Progress) → page_ended x ≡ Ok final → (sees nothing_seen final.told).signs ≡ signs_of tree → ⊥
       by (Ok p) h final e s =
-          let same = on p final (may_end p.now) e in
+          let same = on p final (page_may_end p.now) e in
           no_meaning_in bytes p h (ap (λ (q : Progress). way.refused (SignsOf q)) same ∙ (ap way.refused s ∙ none)) fault m
       by (Err f) h final e s = absurd (cc)
 
@@ -91,7 +91,7 @@ module _ (way : Way) (law : IsRefusal way.refused) where
   end_kind p false fault e = let same : fault_in p.now.scan Unended ≡ fault = cc in sym (ap (λ (f : Fault). f.kind) same)
 
   pub only_unended : (bytes : List ℕ) (p : Progress) → page_read way.syntax way.limits bytes ≡ Ok p → way.refused (SignsOf p) ≡ None → (fault : Fault) → Refuses way bytes fault → fault.kind ≡ Unended
-  only_unended bytes p h none fault (for_form f n) = end_kind p (may_end p.now) fault (sym (ap end_of h) ∙ fault_is_read way.syntax way.limits bytes fault f)
+  only_unended bytes p h none fault (for_form f n) = end_kind p (page_may_end p.now) fault (sym (ap page_ended h) ∙ fault_is_read way.syntax way.limits bytes fault f)
   only_unended bytes p h none fault (for_meaning m n) = absurd (no_meaning_in bytes p h none fault m)
 
   -- a fault of more bytes stands in them
@@ -108,8 +108,8 @@ module _ (way : Way) (law : IsRefusal way.refused) where
           let at : fault.at ≡ q.now.scan.at = ap (λ (x : Fault). x.at) (sym same) in
           omega (arith, at, s, length-append bytes more)
 
-      by : (x : Result Progress Fault) → page_read way.syntax way.limits (bytes ++ more) ≡ x → end_of x ≡ Err fault → length bytes ≤ fault.at
-      by (Ok q) k e = on q (may_end q.now) (read_size way.syntax way.limits (bytes ++ more) q k).0 e
+      by : (x : Result Progress Fault) → page_read way.syntax way.limits (bytes ++ more) ≡ x → page_ended x ≡ Err fault → length bytes ≤ fault.at
+      by (Ok q) k e = on q (page_may_end q.now) (read_size way.syntax way.limits (bytes ++ more) q k).0 e
       by (Err g) k e = (within_so way.syntax way.limits bytes more p fault h (k ∙ e)).from
 
   pub refused_from : (bytes more : List ℕ) (p : Progress) → page_read way.syntax way.limits bytes ≡ Ok p → way.refused (SignsOf p) ≡ None → (fault : Fault) → Refuses way (bytes ++ more) fault → length bytes ≤ fault.at
@@ -192,21 +192,21 @@ form_kind syntax limits bytes _ (known_too_long whole rest items line phase firs
 form_kind syntax limits bytes _ (decided {found = found} whole rest items line phase run c e r i f s p) = faulty_kind syntax limits.depth items line phase _ found _ f
 form_kind syntax limits bytes _ (unended whole part items line phase run e r i is n size s) = (refl, refl)
 
-refusal_kind : (refused : Refusal) → is_of_items (kind_of refused) ≡ false
+refusal_kind : (refused : Refusal) → is_of_items (kind_of_refusal refused) ≡ false
 refusal_kind RelativeVocab = refl
 refusal_kind XmlLiteral = refl
 refusal_kind HtmlLiteral = refl
 
 -- faults of what start tags say to RDFa aren't of items
-pub meaning_kind : (context : Context) (line : List tree.Tag) (signs : List Sign) (fault : Fault) → refused_in context line signs ≡ Some fault → is_of_items fault.kind ≡ false
+pub meaning_kind : (context : Context) (line : List tree.ElementTag) (signs : List Sign) (fault : Fault) → refused_in context line signs ≡ Some fault → is_of_items fault.kind ≡ false
 meaning_kind context line [] fault e = absurd (cc)
 meaning_kind context line (begun t ∷ signs) fault e = by (meaning_kind context (line_on line (begun t)) signs fault) (refusal (facts context line (read_tag t))) e
   where
     by : (refused_in context (line_on line (begun t)) signs ≡ Some fault → is_of_items fault.kind ≡ false) → (x : Option Refusal)
-        → option_or (option_map (λ refused. record { kind = kind_of refused; token = t.token; at = t.at }) x) (refused_in context (line_on line (begun t)) signs) ≡ Some fault → is_of_items fault.kind ≡ false
+        → option_or (option_map (λ refused. record { kind = kind_of_refusal refused; token = t.token; at = t.at }) x) (refused_in context (line_on line (begun t)) signs) ≡ Some fault → is_of_items fault.kind ≡ false
     by on None h = on h
     by on (Some refused) h =
-        let same : record { kind = kind_of refused; token = t.token; at = t.at } ≡ fault = cc in
+        let same : record { kind = kind_of_refusal refused; token = t.token; at = t.at } ≡ fault = cc in
         ap (λ (f : Fault). is_of_items f.kind) (sym same) ∙ refusal_kind refused
 meaning_kind context line (said c ∷ signs) fault e = meaning_kind context (line_on line (said c)) signs fault e
 meaning_kind context line (finished ∷ signs) fault e = meaning_kind context (line_on line finished) signs fault e

@@ -1,12 +1,12 @@
 -- Each byte list has one outcome.
 use Rattle.rx_items.proofs.Common.{append_cancel_left, Fault, Unended, FaultAt, Page, Tree, one_tree, Sign, sees, nothing_seen, signs_of, MeaningAt, Refuses, for_form, for_meaning, Way, IsRefusal, Context, Outcome, Given, Refused, outcome, standard_bounds, Data}
-use Rattle.rx_pages.proofs.Common.{◌≡◌, ◌∙◌, ⊎_elim, inl, inr, ℕ, Bool, true, false, List, [], ◌∷◌, ◌++◌, refl, sym, ap, subst, Option, Some, None, Result, Ok, Err, append_assoc, append-nil, not, if◌then◌else◌, ◌⊎◌, Progress, page_read, page_byte_on, page_on, nothing_read, spot_of, end_of, may_end, fault_in, fault_stays, page_is_told, page_append}
+use Rattle.rx_pages.proofs.Common.{◌≡◌, ◌∙◌, ⊎_elim, inl, inr, ℕ, Bool, true, false, List, [], ◌∷◌, ◌++◌, refl, sym, ap, subst, Option, Some, None, Result, Ok, Err, append_assoc, append-nil, not, if◌then◌else◌, ◌⊎◌, Progress, page_read, page_byte_on, page_on, no_progress, spot_of, page_ended, page_may_end, fault_in, fault_stays, page_is_told, page_append}
 use Rattle.rx_pages.proofs.BytesOn.{page_or_fault}
 use Rattle.rx_nest.proofs.TreeSeen.{whole}
 use Rattle.rx_nest.proofs.Firsts.{meaning_first}
 use Rattle.rx_nest.proofs.Meanings.{meant, read_as_meant}
 use Rattle.rx_job.specs.Words.{Task, Itemization, extracts, itemizes, checks}
-use Rattle.rx_page.specs.Settings.{standard, HasFirst}
+use Rattle.rx_page.specs.Settings.{standard_limits, HasFirst}
 use Rattle.rx_page.specs.Tasks.{TaskRefuses, syntax_in, way_in, is_of_items}
 use Rattle.rx_page.specs.Outcomes.{TaskAccepts, IsTheTree, IsTheFault, OneOutcome, may_refuse}
 use Rattle.rx_grammar.specs.Kinds.{is_of_meaning}
@@ -31,7 +31,7 @@ module _ (way : Way) (law : IsRefusal way.refused) where
     most : (some other : List ℕ) (p : Progress) → bytes ≡ some ++ other → Read some ≡ Ok p → (mid : List ℕ) × (front ≡ some ++ mid)
 
   read_on : (bytes more : List ℕ) (p : Progress) → Read bytes ≡ Ok p → Read (bytes ++ more) ≡ page_on way.syntax way.limits (Ok p) more
-  read_on bytes more p h = page_append way.syntax way.limits (spot_of way.syntax p.now.nest) (Ok nothing_read) bytes more ∙ ap (λ x. page_on way.syntax way.limits x more) h
+  read_on bytes more p h = page_append way.syntax way.limits (spot_of way.syntax p.now.nest) (Ok no_progress) bytes more ∙ ap (λ x. page_on way.syntax way.limits x more) h
 
   -- behind a byte that decides a fault nothing is read
   none_behind : (bytes more : List ℕ) (byte : ℕ) (p : Progress) (fault : Fault) → Read bytes ≡ Ok p → page_byte_on way.syntax way.limits (Ok p) byte ≡ Err fault → (q : Progress) → Read (bytes ++ byte ∷ more) ≡ Ok q → ⊥
@@ -63,7 +63,7 @@ module _ (way : Way) (law : IsRefusal way.refused) where
 
   -- no front shows a tag that is refused, or one does
   none_or_one : (bytes : List ℕ) → ((fault : Fault) → MeaningAt way bytes fault → ⊥) ⊎ ((fault : Fault) × MeaningAt way bytes fault)
-  none_or_one bytes = by (longest_from [] bytes nothing_read refl)
+  none_or_one bytes = by (longest_from [] bytes no_progress refl)
     where
       on : (l : Longest bytes) (x : Option Fault) → way.refused (SignsOf l.now) ≡ x → ((fault : Fault) → MeaningAt way bytes fault → ⊥) ⊎ ((fault : Fault) × MeaningAt way bytes fault)
       on l None h =
@@ -91,8 +91,8 @@ module _ (way : Way) (law : IsRefusal way.refused) where
       on p h s None r = refl
       on p h s (Some fault) r = absurd (none fault (meant way law bytes fault (record { front = bytes; rest = []; are = sym (append-nil bytes); now = p; read = h; refused = ap way.refused s ∙ r })))
 
-      by : (x : Result Progress Fault) → Read bytes ≡ x → (final : Progress) → end_of x ≡ Ok final → SignsOf final ≡ signs_of tree → way.refused (signs_of tree) ≡ None
-      by (Ok p) h final e s = on p h (ap SignsOf (is_final p final (may_end p.now) e) ∙ s) (way.refused (signs_of tree)) refl
+      by : (x : Result Progress Fault) → Read bytes ≡ x → (final : Progress) → page_ended x ≡ Ok final → SignsOf final ≡ signs_of tree → way.refused (signs_of tree) ≡ None
+      by (Ok p) h final e s = on p h (ap SignsOf (is_final p final (page_may_end p.now) e) ∙ s) (way.refused (signs_of tree)) refl
       by (Err f) h final e s = absurd (cc)
 
   -- whatever the bytes, they are a page of which no tag is refused, or they have a first fault
@@ -113,7 +113,7 @@ kind_of_first way bytes fault of (for_meaning m n) = of (signs_of m.tree) m.refu
 
 -- what refuses it for its form where items are wanted isn't of meaning
 form_of_first : (i : Itemization) (context : Context) (bytes : List ℕ) (fault : Fault) → Refuses (way_in (itemizes i) context) bytes fault → is_of_meaning fault.kind ≡ false
-form_of_first i context bytes fault (for_form f n) = (form_kind i.syntax standard bytes fault f).1
+form_of_first i context bytes fault (for_form f n) = (form_kind i.syntax standard_limits bytes fault f).1
 form_of_first i context bytes fault (for_meaning m n) = let none : None ≡ Some fault = m.refused in absurd (cc)
 
 refusable : (task : Task) (context : Context) (bytes : List ℕ) (fault : Fault) → TaskRefuses task context bytes fault → may_refuse task fault.kind ≡ true
@@ -123,13 +123,13 @@ refusable (itemizes i) context bytes fault (inl r) = ap not (form_of_first i con
 refusable (itemizes i) context bytes fault (inr r) = ap not (item_kind (λ kind. is_of_meaning kind ≡ false) refl refl refl i.address r.tree fault r.refused)
 
 -- there is one tree
-accepted_tree : (task : Task) (context : Context) (bytes : List ℕ) (tree : Tree) → TaskAccepts task context bytes tree → Page (syntax_in task) standard bytes tree
+accepted_tree : (task : Task) (context : Context) (bytes : List ℕ) (tree : Tree) → TaskAccepts task context bytes tree → Page (syntax_in task) standard_limits bytes tree
 accepted_tree (extracts e) context bytes tree a = a.page
 accepted_tree (itemizes i) context bytes tree a = a.page
 accepted_tree (checks syntax) context bytes tree a = a.page
 
 one_accepted : (task : Task) (context : Context) (bytes : List ℕ) (a b : Tree) → TaskAccepts task context bytes a → TaskAccepts task context bytes b → a ≡ b
-one_accepted task context bytes a b p q = one_tree (syntax_in task) standard bytes a b (accepted_tree task context bytes a p) (accepted_tree task context bytes b q)
+one_accepted task context bytes a b p q = one_tree (syntax_in task) standard_limits bytes a b (accepted_tree task context bytes a p) (accepted_tree task context bytes b q)
 
 pub given_not_refused : (value : Data) (fault : Fault) → Given value ≡ Refused fault → ⊥
 given_not_refused value fault e = cc
@@ -145,7 +145,7 @@ one_of_task (itemizes i) context bytes a b (inl p) (inl q) = one_first (way_in (
 one_of_task (itemizes i) context bytes a b (inl p) (inr q) = absurd (page_has_none (way_in (itemizes i) context) (refuses_so (itemizes i) context) bytes q.tree q.page refl a p)
 one_of_task (itemizes i) context bytes a b (inr p) (inl q) = absurd (page_has_none (way_in (itemizes i) context) (refuses_so (itemizes i) context) bytes p.tree p.page refl b q)
 one_of_task (itemizes i) context bytes a b (inr p) (inr q) =
-    let same : p.tree ≡ q.tree = one_tree i.syntax standard bytes p.tree q.tree p.page q.page in
+    let same : p.tree ≡ q.tree = one_tree i.syntax standard_limits bytes p.tree q.tree p.page q.page in
     refused_same a b (sym p.refused ∙ (ap (outcome standard_bounds i.address) same ∙ q.refused))
 
 -- no bytes are accepted and refused
@@ -154,7 +154,7 @@ never_both (extracts e) context bytes tree fault a r = page_has_none (way_in (ex
 never_both (checks syntax) context bytes tree fault a r = page_has_none (way_in (checks syntax) context) (refuses_so (checks syntax) context) bytes tree a.page a.accepted fault r
 never_both (itemizes i) context bytes tree fault a (inl r) = page_has_none (way_in (itemizes i) context) (refuses_so (itemizes i) context) bytes tree a.page refl fault r
 never_both (itemizes i) context bytes tree fault a (inr r) =
-    let same : tree ≡ r.tree = one_tree i.syntax standard bytes tree r.tree a.page r.page in
+    let same : tree ≡ r.tree = one_tree i.syntax standard_limits bytes tree r.tree a.page r.page in
     given_not_refused a.value fault (sym a.given ∙ (ap (outcome standard_bounds i.address) same ∙ r.refused))
 
 -- a first fault refuses, whatever the task
@@ -179,7 +179,7 @@ the_fault task context bytes fault r =
 abbrev Ends : Task → Context → List ℕ → Type 0
 Ends task context bytes = ((tree : Tree) × TaskAccepts task context bytes tree) ⊎ ((fault : Fault) × TaskRefuses task context bytes fault)
 
-item_ends : (i : Itemization) (context : Context) (bytes : List ℕ) (tree : Tree) → Page i.syntax standard bytes tree → (x : Outcome) → outcome standard_bounds i.address tree ≡ x → Ends (itemizes i) context bytes
+item_ends : (i : Itemization) (context : Context) (bytes : List ℕ) (tree : Tree) → Page i.syntax standard_limits bytes tree → (x : Outcome) → outcome standard_bounds i.address tree ≡ x → Ends (itemizes i) context bytes
 item_ends i context bytes tree page (Given value) e = inl (tree, record { page = page; value = value; given = e })
 item_ends i context bytes tree page (Refused fault) e = inr (fault, inr (record { tree = tree; page = page; refused = e }))
 

@@ -10,9 +10,10 @@ use Rattle.rx_page.specs.Texts.{JsonText}
 use Rattle.rx_page.specs.Forms.{form_of, IsFormText}
 use Rattle.rx_page.specs.declared.forms.Form.{Form}
 use Rattle.rx_page.specs.declared.forms.Form.TheVariants as forms
-use Rattle.rx_page.specs.Tasks.{HasText, TaskGives, TaskDenotes, base_in, facts_in}
-use Rattle.rx_page.specs.Settings.{standard}
+use Rattle.rx_page.specs.Tasks.{HasText, TaskGives, TaskDenotes, facts_in}
+use Rattle.rx_page.specs.Settings.{standard_limits}
 use Rattle.rx_page.proofs.OutcomeLemmas.{the_tree}
+use Rattle.rx_microdata.specs.Base.{base_in}
 
 -- ---- a node has one shape
 
@@ -48,7 +49,7 @@ one_text_in forms.Jsonld list a b p q =
 
 one_extracted : (e : Extraction) (context : Context) (bytes a b : List ℕ) → HasText e context bytes a → HasText e context bytes b → a ≡ b
 one_extracted e context bytes a b p q =
-    let same : p.tree ≡ q.tree = one_tree e.syntax standard bytes p.tree q.tree p.is.page q.is.page in
+    let same : p.tree ≡ q.tree = one_tree e.syntax standard_limits bytes p.tree q.tree p.is.page q.is.page in
     one_text_in (form_of e context) (written (base_in e.address q.tree) (facts_in context q.tree)) a b
     (subst (λ t. IsFormText (form_of e context) (written (base_in e.address t) (facts_in context t)) a) same p.spelled) q.spelled
 
@@ -62,7 +63,7 @@ one_json address tree a b p q =
 pub one_text : (task : Task) (context : Context) (bytes a b : List ℕ) → TaskGives task context bytes a → TaskGives task context bytes b → a ≡ b
 one_text (extracts e) context bytes a b p q = one_extracted e context bytes a b p q
 one_text (itemizes i) context bytes a b p q =
-    let same : p.tree ≡ q.tree = one_tree i.syntax standard bytes p.tree q.tree p.page q.page in
+    let same : p.tree ≡ q.tree = one_tree i.syntax standard_limits bytes p.tree q.tree p.page q.page in
     one_json i.address q.tree a b (subst (λ t. JsonText i.address t a) same p.json) q.json
 one_text (checks syntax) context bytes a b p q = p.spelled ∙ sym q.spelled
 

@@ -6,11 +6,11 @@ use Rattle.rx_microdata.specs.Visits.{standard_bounds}
 use Rattle.serde_json.specs.Data.{Data}
 use Rattle.rx_job.specs.Words.{Task, Itemization, extracts, itemizes, checks}
 use Rattle.rx_page.specs.Tasks.{IsAccepted, TaskGives, TaskDenotes, TaskRefuses, is_of_items}
-use Rattle.rx_page.specs.Settings.{standard}
+use Rattle.rx_page.specs.Settings.{standard_limits}
 
 -- the bytes are a page with this tree, and none of its items is refused
 pub record HasItemTree (i : Itemization) (bytes : List ℕ) (tree : Tree) : Type 0 where
-  pub page : Page i.syntax standard bytes tree
+  pub page : Page i.syntax standard_limits bytes tree
   pub value : Data
   pub given : outcome standard_bounds i.address tree ≡ Given value
 

@@ -22,12 +22,12 @@ abbrev pub graph_made : List CodeTriple → List (Triple ℕ)
 graph_made list = numbered nat_eq (copied nat_eq (triples_seen list))
 
 -- the text of the triples, one of JSON, or that of a page that is right
-abbrev pub text_of : Outcome → List ℕ
-text_of (outcome.Quads graph name) = encode_utf8_all (nquads (triples_seen graph) name)
-text_of (outcome.Turtle graph context) = encode_utf8_all (turtle context.prefixes (triples_seen graph))
-text_of (outcome.Nested shaped context) = nested_text context shaped
-text_of (outcome.Json text) = text.items
-text_of outcome.Right = ok_line
+abbrev pub output_text : Outcome → List ℕ
+output_text (outcome.Quads graph name) = encode_utf8_all (nquads (triples_seen graph) name)
+output_text (outcome.Turtle graph context) = encode_utf8_all (turtle context.prefixes (triples_seen graph))
+output_text (outcome.Nested shaped context) = nested_text context shaped
+output_text (outcome.Json text) = text.items
+output_text outcome.Right = ok_line
 
 -- the text of triples denotes exactly these, as is known where it was written
 abbrev pub Denoted : Outcome → Type 0

@@ -5,7 +5,7 @@ ghost use Rattle.rx_ports.specs.Counts.{Rose};
 ghost use Rattle.rx_ports.specs.Shelves.{WhereKnown, GrowsBy, GrowsByPart};
 ghost use Rattle.rx_page.specs.Forms.{IsFormText, FormDenotes};
 ghost use Rattle.rx_page.specs.Texts.{as_read};
-ghost use Rattle.rx_page.specs.Written.{text_of, Denoted, graph_made};
+ghost use Rattle.rx_page.specs.Written.{output_text, Denoted, graph_made};
 
 use crate::forms::Form;
 use crate::json_texts::text_of_graph;
@@ -36,8 +36,8 @@ pub enum Outcome {
 impl Outcome {
     /// The graph of the triples, which is written in this form.
     pub fn of(alloc: Global, list: TripleList, form: Form) -> Result<Outcome, NoMemory>
-        ensures spelled { IfOk result (λ outcome. IsFormText form (graph_made list) (text_of outcome)) }
-        ensures denoted { IfOk result (λ outcome. Denoted outcome → FormDenotes form (text_of outcome) (as_read (graph_made list))) }
+        ensures spelled { IfOk result (λ outcome. IsFormText form (graph_made list) (output_text outcome)) }
+        ensures denoted { IfOk result (λ outcome. Denoted outcome → FormDenotes form (output_text outcome) (as_read (graph_made list))) }
     {
         match graph_of(alloc, list) {
             Ok(graph) => Outcome::of_graph(alloc, graph, form),
@@ -50,8 +50,8 @@ impl Outcome {
 
     /// The graph, which is written in this form.
     fn of_graph(alloc: Global, graph: Graph, form: Form) -> Result<Outcome, NoMemory>
-        ensures spelled { IfOk result (λ outcome. IsFormText form (triples_seen graph) (text_of outcome)) }
-        ensures denoted { IfOk result (λ outcome. Denoted outcome → FormDenotes form (text_of outcome) (as_read (triples_seen graph))) }
+        ensures spelled { IfOk result (λ outcome. IsFormText form (triples_seen graph) (output_text outcome)) }
+        ensures denoted { IfOk result (λ outcome. Denoted outcome → FormDenotes form (output_text outcome) (as_read (triples_seen graph))) }
     {
         match form {
             Form::Nquads(name) => Ok(Outcome::Quads { graph, name }),
@@ -63,9 +63,9 @@ impl Outcome {
 
     /// Writes the text piece by piece. Memory is taken before the first byte is written.
     pub fn write<O: Sink>(&self, alloc: Global, out: &mut O) -> Result<(), WriteError>
-        ensures ok { OnOk result (WhereKnown (GrowsBy (text_of self.now)) (O.held out.old) (O.held out.new)) }
+        ensures ok { OnOk result (WhereKnown (GrowsBy (output_text self.now)) (O.held out.old) (O.held out.new)) }
         ensures denoted { OnOk result (Denoted self.now) }
-        ensures partly { IsErrOf result WriteError.Failed → WhereKnown (GrowsByPart (text_of self.now)) (O.held out.old) (O.held out.new) }
+        ensures partly { IsErrOf result WriteError.Failed → WhereKnown (GrowsByPart (output_text self.now)) (O.held out.old) (O.held out.new) }
         ensures cause { IsErrOf result WriteError.Failed → Rose (O.faults out.old) (O.faults out.new) }
         ensures steady { OnOk result (O.faults out.new ≡ O.faults out.old) }
         ensures untouched { IsErrOf result WriteError.NoMemory → out.new ≡ out.old }
@@ -82,8 +82,8 @@ impl Outcome {
 
 /// The graph, which is written as nested Turtle.
 fn nested_of(alloc: Global, graph: Graph, context: Context) -> Result<Outcome, NoMemory>
-    ensures spelled { IfOk result (λ outcome. IsFormText (Form.Nested context) (triples_seen graph) (text_of outcome)) }
-    ensures denoted { IfOk result (λ outcome. Denoted outcome → FormDenotes (Form.Nested context) (text_of outcome) (as_read (triples_seen graph))) }
+    ensures spelled { IfOk result (λ outcome. IsFormText (Form.Nested context) (triples_seen graph) (output_text outcome)) }
+    ensures denoted { IfOk result (λ outcome. Denoted outcome → FormDenotes (Form.Nested context) (output_text outcome) (as_read (triples_seen graph))) }
 {
     match Shaped::of(alloc, graph) {
         Ok(shaped) => Ok(Outcome::Nested { shaped, context }),
@@ -96,8 +96,8 @@ fn nested_of(alloc: Global, graph: Graph, context: Context) -> Result<Outcome, N
 
 /// The graph's text as JSON-LD.
 fn json_of(alloc: Global, graph: Graph) -> Result<Outcome, NoMemory>
-    ensures spelled { IfOk result (λ outcome. IsFormText Form.Jsonld (triples_seen graph) (text_of outcome)) }
-    ensures denoted { IfOk result (λ outcome. FormDenotes Form.Jsonld (text_of outcome) (as_read (triples_seen graph))) }
+    ensures spelled { IfOk result (λ outcome. IsFormText Form.Jsonld (triples_seen graph) (output_text outcome)) }
+    ensures denoted { IfOk result (λ outcome. FormDenotes Form.Jsonld (output_text outcome) (as_read (triples_seen graph))) }
 {
     let text = text_of_graph(alloc, &graph);
     drop(graph);

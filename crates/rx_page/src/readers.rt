@@ -1,7 +1,7 @@
 //! What reads a page in pieces.
 ghost use Rattle.std.specs.Prelude.{List, ℕ};
 ghost use Rattle.rx_nest.specs.Ways.{IsRefusal, Way};
-ghost use Rattle.rx_page.specs.Readers.{Feeds, Finishes, IsRead};
+ghost use Rattle.rx_page.specs.Readers.{Feeds, Finishes, IsReadPage};
 
 use rx_walk::Stop;
 
@@ -34,7 +34,7 @@ pub trait PageReader {
         ensures { Finishes way stands gives self result };
 
     /// The bytes that it took have no fault.
-    ghost shows: { (setting : Setting) (reader : Self) (bytes : List ℕ) → stands setting reader bytes → IsRead (way setting) bytes };
+    ghost shows: { (setting : Setting) (reader : Self) (bytes : List ℕ) → stands setting reader bytes → IsReadPage (way setting) bytes };
 
     /// A setting refuses start tags one after another.
     ghost refuses: { (setting : Setting) → IsRefusal (way setting).refused };

@@ -24,7 +24,7 @@ impl PageReader for Walk {
 
     ghost stands = { λ made walk bytes. walks.WalkStands made.0 made.1 walk bytes };
 
-    ghost gives = { λ made bytes list. walks.Ended made.0 made.1 bytes list };
+    ghost gives = { λ made bytes list. walks.WalkEnded made.0 made.1 bytes list };
 
     fn feed(&mut self, piece: &[u8]) -> Result<(), Stop> {
         self.feed(piece)
@@ -42,13 +42,13 @@ impl PageReader for Walk {
 impl PageReader for ItemWalk {
     type Given = Items;
 
-    ghost Setting = { items.Setting };
+    ghost Setting = { items.MicrodataSetting };
 
-    ghost way = { items.way_of };
+    ghost way = { items.microdata_way };
 
     ghost stands = { item_walks.ItemWalkStands };
 
-    ghost gives = { item_walks.Ended };
+    ghost gives = { item_walks.ItemWalkEnded };
 
     fn feed(&mut self, piece: &[u8]) -> Result<(), Stop> {
         self.feed(piece)
@@ -58,7 +58,7 @@ impl PageReader for ItemWalk {
         self.finish()
     }
 
-    ghost shows = { λ setting walk bytes s. shown_read (items.way_of setting) bytes walk.nest s.goes.signs s.goes.shown s.paid refl };
+    ghost shows = { λ setting walk bytes s. shown_read (items.microdata_way setting) bytes walk.nest s.goes.signs s.goes.shown s.paid refl };
 
     ghost refuses = { λ setting. none_refuses };
 }

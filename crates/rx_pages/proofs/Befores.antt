@@ -1,5 +1,5 @@
 -- A token that something follows stands before a `<` too; outside the root, and where it is a tag, also before nothing.
-use Rattle.rx_reader.proofs.Common.{◌≡◌, ◌≢◌, ◌∙◌, ◌⊎◌, inl, inr, ℕ, Bool, true, false, List, [], ◌∷◌, ◌++◌, Option, Some, None, refl, ap, sym, eqb-true, ◌||◌, ◌&&◌, ◌==◌, not, list_all, ampersand, solidus, semicolon, number_sign, less_than_sign, lowered_char, is_letter, is_digit, is_letter_or_digit, Chars, lowered, begins_with, both, and-false, Entry, Syntax, same, is_hexadecimal_digit, is_x, is_body, begins_number, is_begun, stops_at, Token, tag, ends_name, Spells, has_less_than, keeps_runs, raw_name, begins_end, Item, last_from, Spelled, no_more, one, values, next_of, Content, unless}
+use Rattle.rx_reader.proofs.Common.{◌≡◌, ◌≢◌, ◌∙◌, ◌⊎◌, inl, inr, ℕ, Bool, true, false, List, [], ◌∷◌, ◌++◌, Option, Some, None, refl, ap, sym, eqb-true, ◌||◌, ◌&&◌, ◌==◌, not, list_all, ampersand, solidus, semicolon, number_sign, less_than_sign, lowered_char, is_letter, is_digit, is_letter_or_digit, Chars, lowered, begins_with, both, and-false, PlacedCharacter, Syntax, same, is_hexadecimal_digit, is_x, is_body, begins_number, is_begun, stops_at, Token, tag, ends_name, Spells, has_less_than, keeps_runs, raw_name, begins_end, Item, last_from, Spelled, no_more, one, values, next_of, Content, unless}
 use Rattle.rx_grammar.specs.declared.contents.Content.TheVariants as content
 use Rattle.rx_pages.proofs.Prefix.{Minds, a_mark, an_end, a_run, other_next, spelled_before}
 use Rattle.rx_pages.proofs.TokenWalk.{IsKept, is_kept}
@@ -65,7 +65,7 @@ before_nothing s i text next token l sp = other_next s i text None token (λ tes
     by (k, n) (inr e) = n e
 
 module _ (syntax : Syntax) where
-  pub spelled_less : {entries : List Entry} {next : Option ℕ} {items : List Item} → Spelled syntax entries next items → Spelled syntax entries (Some 60) items
+  pub spelled_less : {entries : List PlacedCharacter} {next : Option ℕ} {items : List Item} → Spelled syntax entries next items → Spelled syntax entries (Some 60) items
   spelled_less {next = next} h = spelled_before syntax next (Some 60) (λ i text token. before_less syntax i text next token) h
 
   -- the last of some tokens is such a one
@@ -74,11 +74,11 @@ module _ (syntax : Syntax) where
   LastIs (item ∷ []) = IsLast item.content item.token
   LastIs (item ∷ other ∷ items) = LastIs (other ∷ items)
 
-  last_by : (c : Entry) (run : List Entry) (item : Item) → item.first ≡ c.first → item.last ≡ last_from c.last run → {rest : List Entry} {next : Option ℕ} {items : List Item} → Spelled syntax rest next items
+  last_by : (c : PlacedCharacter) (run : List PlacedCharacter) (item : Item) → item.first ≡ c.first → item.last ≡ last_from c.last run → {rest : List PlacedCharacter} {next : Option ℕ} {items : List Item} → Spelled syntax rest next items
       → Spells syntax item.content (values (c ∷ run)) (next_of (values rest) next) item.token → LastIs (item ∷ items) → (LastIs items → Spelled syntax rest None items) → Spelled syntax ((c ∷ run) ++ rest) None (item ∷ items)
   last_by c run item f l {next = next} no_more sp h again = one c run [] item (before_nothing syntax item.content (values (c ∷ run)) next item.token h sp) f l no_more
   last_by c run item f l (one d other others i sp2 f2 l2 more) sp h again = one c run ((d ∷ other) ++ others) item sp f l (again h)
 
-  pub spelled_last : {entries : List Entry} {next : Option ℕ} {items : List Item} → Spelled syntax entries next items → LastIs items → Spelled syntax entries None items
+  pub spelled_last : {entries : List PlacedCharacter} {next : Option ℕ} {items : List Item} → Spelled syntax entries next items → LastIs items → Spelled syntax entries None items
   spelled_last no_more h = no_more
   spelled_last (one c run rest item sp f l more) h = last_by c run item f l more sp h (λ k. spelled_last more k)

@@ -1,24 +1,24 @@
 -- What holds of each byte that is read.
-use Rattle.rx_pages.proofs.Words.{◌≡◌, ◌∙◌, ℕ, ◌+◌, Bool, true, false, List, [], ◌∷◌, ◌++◌, refl, sym, ap, subst, Result, Ok, Err, ◌&&◌, ◌||◌, ◌==◌, not, nat_le, if◌then◌else◌, greater_than_sign, split, Syntax, More, Char, Bad, answer_of, Entry, byte_order_mark, line_feed, carriage_return, as_line_end, Token, doctype, values, Item, is_literal, last_from, Utf8Step, Content, Kind, BadDoctype, NotUtf8, Nul, PageTooLong, StrictText, TagTooLong, Limits, Verdict, whole, ended, refused, verdict, Spot, Scanning, Scanned, first_of, starts_at, token_at, item_of, is_doctype, is_too_long, completed, told_first, with_item, after_token, told, read_entry, read_char, read_answer, read_byte}
+use Rattle.rx_pages.proofs.Words.{◌≡◌, ◌∙◌, ℕ, ◌+◌, Bool, true, false, List, [], ◌∷◌, ◌++◌, refl, sym, ap, subst, Result, Ok, Err, ◌&&◌, ◌||◌, ◌==◌, not, nat_le, if◌then◌else◌, greater_than_sign, split, Syntax, More, Char, Bad, answer_of, PlacedCharacter, byte_order_mark, line_feed, carriage_return, as_line_end, Token, doctype, values, Item, is_literal, last_from, Utf8Step, Content, Kind, BadDoctype, NotUtf8, Nul, PageTooLong, StrictText, TagTooLong, Limits, Verdict, whole, ended, refused, verdict, Spot, Scanning, Scanned, first_of, starts_at, token_at, item_of_run, is_doctype, is_too_long, completed, told_first, with_item, after_token, told, read_entry, read_char, read_answer, read_byte}
 use Rattle.rx_pages.proofs.TokenWalk.{IsKept}
 use Rattle.rx_pages.proofs.EndedRuns.{ended_kept}
-use Rattle.rx_pages.specs.PageReader.{passed}
+use Rattle.rx_pages.specs.PageReader.{passed_over}
 
 -- the last entry of some gives an item its last byte
-pub item_last : (i : Content) (token : Token) (run : List Entry) (e : Entry) → (item_of i token (run ++ e ∷ [])).last ≡ e.last
+pub item_last : (i : Content) (token : Token) (run : List PlacedCharacter) (e : PlacedCharacter) → (item_of_run i token (run ++ e ∷ [])).last ≡ e.last
 item_last i token [] e = refl
 item_last i token (d ∷ run) e = by d.last run
   where
-    by : (last : ℕ) (run : List Entry) → last_from last (run ++ e ∷ []) ≡ e.last
+    by : (last : ℕ) (run : List PlacedCharacter) → last_from last (run ++ e ∷ []) ≡ e.last
     by last [] = refl
     by last (x ∷ run) = by x.last run
 
-pub item_first : (i : Content) (token : Token) (run : List Entry) (e : Entry) → (item_of i token (run ++ e ∷ [])).first ≡ first_of run e.first
+pub item_first : (i : Content) (token : Token) (run : List PlacedCharacter) (e : PlacedCharacter) → (item_of_run i token (run ++ e ∷ [])).first ≡ first_of run e.first
 item_first i token [] e = refl
 item_first i token (d ∷ run) e = refl
 
 -- a run that is told has a first character
-pub token_of_item : (i : Content) (token : Token) (run : List Entry) → (item_of i token run).token ≡ token
+pub token_of_item : (i : Content) (token : Token) (run : List PlacedCharacter) → (item_of_run i token run).token ≡ token
 token_of_item i token [] = refl
 token_of_item i token (e ∷ run) = refl
 
@@ -67,27 +67,27 @@ module _ (syntax : Syntax) (limits : Limits) (spot : Spot) where
         may_come true h = refl
         may_come false h = absurd (cc)
 
-    first_read : (s : Scanning) (after_return : Bool) (entry : Entry) (v : Verdict) → entry.last ≡ s.at → entry.first ≡ starts_at s → Read s (told_first syntax limits spot after_return entry s v) (told_first syntax limits there after_return entry s v)
-    first_read s after_return entry (whole token) l f = completed_read s after_return (item_of spot.inside token (s.run ++ entry ∷ [])) _ (item_last spot.inside token s.run entry ∙ l) (item_first spot.inside token s.run entry ∙ ap (λ x. first_of s.run x) f)
+    first_read : (s : Scanning) (after_return : Bool) (entry : PlacedCharacter) (v : Verdict) → entry.last ≡ s.at → entry.first ≡ starts_at s → Read s (told_first syntax limits spot after_return entry s v) (told_first syntax limits there after_return entry s v)
+    first_read s after_return entry (whole token) l f = completed_read s after_return (item_of_run spot.inside token (s.run ++ entry ∷ [])) _ (item_last spot.inside token s.run entry ∙ l) (item_first spot.inside token s.run entry ∙ ap (λ x. first_of s.run x) f)
     first_read s after_return entry (refused kind) l f = fault_read s kind _
     first_read s after_return entry _ l f = none_read s _ refl
 
-    ended_read : (s : Scanning) (token : Token) (x y : Result Scanned Kind) → IsKept token → ((r : Scanned) → x ≡ Ok r → r.next.at ≡ s.at + 1) → Read s (with_item syntax limits spot (item_of spot.inside token s.run) x) y
+    ended_read : (s : Scanning) (token : Token) (x y : Result Scanned Kind) → IsKept token → ((r : Scanned) → x ≡ Ok r → r.next.at ≡ s.at + 1) → Read s (with_item syntax limits spot (item_of_run spot.inside token s.run) x) y
     ended_read s token (Ok z) y k n = some_read s z.next _ z.items y (n z refl) (told_next _ z.items (subst IsKept (sym (token_of_item spot.inside token s.run)) k))
     ended_read s token (Err kind) y k n = fault_read s kind y
 
-    told_read : (s : Scanning) (after_return : Bool) (entry : Entry) (v : Verdict) → entry.last ≡ s.at → entry.first ≡ starts_at s → verdict syntax spot.inside (values s.run) entry.value ≡ v → Read s (told syntax limits spot after_return entry s v) (told syntax limits there after_return entry s v)
+    told_read : (s : Scanning) (after_return : Bool) (entry : PlacedCharacter) (v : Verdict) → entry.last ≡ s.at → entry.first ≡ starts_at s → verdict syntax spot.inside (values s.run) entry.value ≡ v → Read s (told syntax limits spot after_return entry s v) (told syntax limits there after_return entry s v)
     told_read s after_return entry (ended token) l f v =
         ended_read s token _ _ (ended_kept syntax spot.inside (values s.run) entry.value token v) (λ r h. (first_read (after_token syntax limits spot s) after_return entry (verdict syntax spot.inside [] entry.value) l f r h).0.next)
     told_read s after_return entry v l f k = first_read s after_return entry v l f
 
-    entry_read : (s : Scanning) (after_return : Bool) (entry : Entry) → entry.last ≡ s.at → entry.first ≡ starts_at s → Read s (read_entry syntax limits spot after_return entry s) (read_entry syntax limits there after_return entry s)
+    entry_read : (s : Scanning) (after_return : Bool) (entry : PlacedCharacter) → entry.last ≡ s.at → entry.first ≡ starts_at s → Read s (read_entry syntax limits spot after_return entry s) (read_entry syntax limits there after_return entry s)
     entry_read s after_return entry l f =
         on_if s (is_too_long syntax limits spot (s.run ++ entry ∷ []) (first_of s.run entry.first) entry.last) (fault_read s TagTooLong _) (told_read s after_return entry (verdict syntax spot.inside (values s.run) entry.value) l f refl)
 
     char_read : (s : Scanning) (c : ℕ) → Read s (read_char syntax limits spot c s) (read_char syntax limits there c s)
     char_read s c =
-        on_if s (not s.started && c == byte_order_mark || s.after_return && c == line_feed) (none_read s (passed s) refl) (entry_read s (c == carriage_return) (record { value = as_line_end c; first = starts_at s; last = s.at }) refl refl)
+        on_if s (not s.started && c == byte_order_mark || s.after_return && c == line_feed) (none_read s (passed_over s) refl) (entry_read s (c == carriage_return) (record { value = as_line_end c; first = starts_at s; last = s.at }) refl refl)
 
     answer_read : (s : Scanning) (held : List ℕ) (step : Utf8Step) → Read s (read_answer syntax limits spot held s step) (read_answer syntax limits there held s step)
     answer_read s held Bad = fault_read s NotUtf8 _

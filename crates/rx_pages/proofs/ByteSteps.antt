@@ -1,5 +1,5 @@
 -- Reading a page byte by byte: what the bytes of one character do.
-use Rattle.rx_pages.proofs.Words.{◌≡◌, ◌≢◌, ◌∙◌, ℕ, ◌+◌, ◌-◌, ◌<◌, ◌≤◌, Bool, true, false, List, [], ◌∷◌, ◌++◌, refl, sym, ap, subst, length, append_assoc, append-nil, Result, Ok, Err, arith, nat_le, nat_tests, ◌&&◌, ◌==◌, IsScalar, encode, length-append, Syntax, More, Char, answer_of, IsCharacter, BeginsCharacter, values, is_known_tag, character_of_form, answer_is, Fault, Kind, Limits, Step, content_at, Spot, Scanning, Scanned, first_of, token_at, read_char, spot_of, steps_on, no_step, Reading, Progress, progress_of, nested_items, page_byte_on, page_on, telling}
+use Rattle.rx_pages.proofs.Words.{◌≡◌, ◌≢◌, ◌∙◌, ℕ, ◌+◌, ◌-◌, ◌<◌, ◌≤◌, Bool, true, false, List, [], ◌∷◌, ◌++◌, refl, sym, ap, subst, length, append_assoc, append-nil, Result, Ok, Err, arith, nat_le, nat_tests, ◌&&◌, ◌==◌, IsScalar, encode, length-append, Syntax, More, Char, answer_of, IsCharacter, BeginsCharacter, values, is_known_tag, character_of_form, answer_is, Fault, Kind, Limits, Step, content_at, Spot, Scanning, Scanned, first_of, token_at, read_char, spot_of, steps_on, no_step, PageReading, Progress, progress_of, nested_items, page_byte_on, page_on, telling}
 use Rattle.rx_pages.proofs.EntrySteps.{Stood, placed_at, map_scanned, stood_by, nested_by}
 
 pub not_le : (a b : ℕ) → b < a → nat_le a b ≡ false
@@ -17,7 +17,7 @@ not_long true bound at h = not_le bound at (h refl)
 abbrev pub scan_at : ℕ → List ℕ → Bool → Bool → Stood → Scanning
 scan_at at held started after_return st = record { at = at; held = held; started = started; after_return = after_return; run = st.run; two = st.two; last = st.last }
 
-abbrev pub reading_at : ℕ → List ℕ → Bool → Bool → Stood → Reading
+abbrev pub reading_at : ℕ → List ℕ → Bool → Bool → Stood → PageReading
 reading_at at held started after_return st = record { scan = scan_at at held started after_return st; nest = st.nest }
 
 abbrev pub progress_at : ℕ → List ℕ → Bool → Bool → Stood → Progress

@@ -1,5 +1,5 @@
 -- One more byte: the page goes on with it, or it decides a fault. So bytes that are no page have a fault.
-use Rattle.rx_reader.proofs.Common.{◌≡◌, ◌≢◌, ◌∙◌, ◌⊎◌, ⊎_elim, inl, inr, ℕ, ◌+◌, ◌-◌, ◌<◌, ◌≤◌, Bool, true, false, List, [], ◌∷◌, ◌++◌, refl, sym, ap, subst, length, append_assoc, append-nil, eqb-true, Some, None, arith, nat_le, ◌&&◌, ◌==◌, not, IsScalar, len_utf8, all_scalars, length-encode, and_parts, and_from, cond-true, cond-false, nat_tests, by_test, not_both_ways, length-append, Syntax, More, Char, Bad, answer_of, BeginsCharacter, Answers, Entry, entered, placed, without_mark, as_line_end, Tree, values, next_of, Item, Spelled, no_more, has_no_nul, Page, Document, Line, inside_of, Phase, before, after, Stands, not_begun, ended, is_known_tag, token_of, IsShort, Before, Reached, FaultAt, IsPart, GoesOn, begins_one, is_one, Utf8Step, answers_from, form_of, Fault, Limits, PageOrFault, repeats_once}
+use Rattle.rx_reader.proofs.Common.{◌≡◌, ◌≢◌, ◌∙◌, ◌⊎◌, ⊎_elim, inl, inr, ℕ, ◌+◌, ◌-◌, ◌<◌, ◌≤◌, Bool, true, false, List, [], ◌∷◌, ◌++◌, refl, sym, ap, subst, length, append_assoc, append-nil, eqb-true, Some, None, arith, nat_le, ◌&&◌, ◌==◌, not, IsScalar, len_utf8, all_scalars, length-encode, and_parts, and_from, cond-true, cond-false, nat_tests, by_test, not_both_ways, length-append, Syntax, More, Char, Bad, answer_of, BeginsCharacter, Answers, PlacedCharacter, preprocessed, placed, without_mark, as_line_end, Tree, values, next_of, Item, Spelled, no_more, has_no_nul, Page, Document, Line, inside_of, Phase, before, after, Stands, not_begun, ended, is_known_tag, token_of, IsShort, Before, Reached, FaultAt, IsPart, GoesOn, begins_one, is_one, Utf8Step, answers_from, form_of, Fault, Limits, PageOrFault, repeats_once}
 use lib.Utf8.{encodes, scalar, encode}
 use Rattle.rx_grammar.specs.declared.faults.Kind.TheVariants as kind
 use Rattle.rx_grammar.specs.Pages as pages
@@ -41,7 +41,7 @@ after_only (ended tree d) h = (tree, d)
 after_only _ h = absurd (cc)
 
 -- the first byte of a run that is known to be a tag
-first_known : (s : Syntax) (line : Line) (run : List Entry) (a b : List ℕ) → is_known_tag s (inside_of s line).content (values run) ≡ true → token_of a run ≡ token_of b run
+first_known : (s : Syntax) (line : Line) (run : List PlacedCharacter) (a b : List ℕ) → is_known_tag s (inside_of s line).content (values run) ≡ true → token_of a run ≡ token_of b run
 first_known s line [] a b k = absurd (cc)
 first_known s line (e ∷ run) a b k = refl
 
@@ -53,7 +53,7 @@ module _ (syntax : Syntax) (limits : Limits) where
     pub items : List Item
     pub line : Line
     pub phase : Phase
-    pub run : List Entry
+    pub run : List PlacedCharacter
     pub here : Here syntax limits chars None items line phase run
     pub is_part : IsPart part
     pub are : bytes ≡ encodes chars ++ part
@@ -69,7 +69,7 @@ module _ (syntax : Syntax) (limits : Limits) where
   abbrev pub Answer : List ℕ → Type 0
   Answer bytes = Begun bytes ⊎ Faults bytes
 
-  pub reached_here : {chars : List ℕ} {items : List Item} {line : Line} {phase : Phase} {run : List Entry} → Here syntax limits chars None items line phase run → Reached syntax limits (encodes chars) items line phase run
+  pub reached_here : {chars : List ℕ} {items : List Item} {line : Line} {phase : Phase} {run : List PlacedCharacter} → Here syntax limits chars None items line phase run → Reached syntax limits (encodes chars) items line phase run
   reached_here {chars = chars} h =
       record { front = h.front; read = record { characters = chars; scalars = h.scalars; forms = refl; read = h.read }; no_nul = h.no_nul; spelled = h.spelled; fit = h.fit; sections = h.sections; stands = h.stands }
 
@@ -150,7 +150,7 @@ module _ (syntax : Syntax) (limits : Limits) where
       are_whole : more ≡ encodes chars ++ []
       are_whole = are ∙ sym (append-nil (encodes chars))
 
-      abbrev entry : Entry
+      abbrev entry : PlacedCharacter
       entry = entry_at c (length (encodes b.chars)) (length (encodes b.chars) + len_utf8 c - 1)
 
       last_is : entry.last ≡ at
@@ -159,12 +159,12 @@ module _ (syntax : Syntax) (limits : Limits) where
       abbrev does_pass : Bool
       does_pass = passes (is_started b.chars) (ends_return false b.chars) c
 
-      entries : entered false (without_mark (placed 0 chars)) ≡ entered false (without_mark (placed 0 b.chars)) ++ entered_one does_pass (length (encodes b.chars)) c
+      entries : preprocessed false (without_mark (placed 0 chars)) ≡ preprocessed false (without_mark (placed 0 b.chars)) ++ entered_one does_pass (length (encodes b.chars)) c
       entries = page_snoc b.chars c
 
       passed : does_pass ≡ true → Begun more
       passed t =
-          let same : entered false (without_mark (placed 0 chars)) ≡ entered false (without_mark (placed 0 b.chars)) = entries ∙ (ap (λ x. entered false (without_mark (placed 0 b.chars)) ++ x) (cond-true _ _ _ t) ∙ append-nil (entered false (without_mark (placed 0 b.chars)))) in
+          let same : preprocessed false (without_mark (placed 0 chars)) ≡ preprocessed false (without_mark (placed 0 b.chars)) = entries ∙ (ap (λ x. preprocessed false (without_mark (placed 0 b.chars)) ++ x) (cond-true _ _ _ t) ∙ append-nil (preprocessed false (without_mark (placed 0 b.chars)))) in
           record {
             chars = chars;
             part = [];
@@ -181,8 +181,8 @@ module _ (syntax : Syntax) (limits : Limits) where
 
       -- one that is entered
       module _ (enters : does_pass ≡ false) where
-        grown : entered false (without_mark (placed 0 chars)) ≡ entered false (without_mark (placed 0 b.chars)) ++ entry ∷ []
-        grown = entries ∙ ap (λ x. entered false (without_mark (placed 0 b.chars)) ++ x) (cond-false _ _ _ enters)
+        grown : preprocessed false (without_mark (placed 0 chars)) ≡ preprocessed false (without_mark (placed 0 b.chars)) ++ entry ∷ []
+        grown = entries ∙ ap (λ x. preprocessed false (without_mark (placed 0 b.chars)) ++ x) (cond-false _ _ _ enters)
 
         abbrev lifted : Here syntax limits b.chars (Some entry.value) b.items b.line b.phase b.run
         lifted = before_next syntax limits entry.value b.here
@@ -220,7 +220,7 @@ module _ (syntax : Syntax) (limits : Limits) where
         known_over : known_now ≡ true → first + limits.tag ≤ entry.last → Faults more
         known_over k o = by b.run b.here.goes (reached syntax limits b.chars chars entry scalars grown (some_entered c nonzero) b.items b.line b.phase b.run lifted) k o free
           where
-            by : (run : List Entry) → scanner.GoesOn syntax (inside_of syntax b.line).content [] (values run) → Reached syntax limits (encodes chars) b.items b.line b.phase (run ++ entry ∷ []) → is_known_tag syntax (inside_of syntax b.line).content (values (run ++ entry ∷ [])) ≡ true
+            by : (run : List PlacedCharacter) → scanner.CharactersGoOn syntax (inside_of syntax b.line).content [] (values run) → Reached syntax limits (encodes chars) b.items b.line b.phase (run ++ entry ∷ []) → is_known_tag syntax (inside_of syntax b.line).content (values (run ++ entry ∷ [])) ≡ true
                 → token_of (encodes chars) (run ++ entry ∷ []) + limits.tag ≤ entry.last → (is_known_tag syntax (inside_of syntax b.line).content (values run) ≡ true → at < token_of (encodes b.chars) run + limits.tag) → Faults more
             by [] g r k o f = absurd (one_unknown syntax (inside_of syntax b.line).content entry.value k)
             by (d ∷ run) g r k o f =
@@ -311,8 +311,8 @@ module _ (syntax : Syntax) (limits : Limits) where
     whole_page : b.run ≡ [] → b.part ≡ [] → b.phase ≡ after → Ends bytes
     whole_page r p a =
         let d = after_only b.here.stands a in
-        let all : b.here.front ++ [] ≡ entered false (without_mark (placed 0 b.chars)) = ap (λ x. b.here.front ++ x) (sym r) ∙ b.here.read in
-        let front : b.here.front ≡ entered false (without_mark (placed 0 b.chars)) = sym (append-nil b.here.front) ∙ all in
+        let all : b.here.front ++ [] ≡ preprocessed false (without_mark (placed 0 b.chars)) = ap (λ x. b.here.front ++ x) (sym r) ∙ b.here.read in
+        let front : b.here.front ≡ preprocessed false (without_mark (placed 0 b.chars)) = sym (append-nil b.here.front) ∙ all in
         inl (
           d.0,
           record {
@@ -339,7 +339,7 @@ module _ (syntax : Syntax) (limits : Limits) where
         by_part r [] p = by_phase r p b.phase refl
         by_part r (x ∷ part) p = unended (λ y z. absurd (cc))
 
-        by_run : (run : List Entry) → b.run ≡ run → Ends bytes
+        by_run : (run : List PlacedCharacter) → b.run ≡ run → Ends bytes
         by_run [] r = by_part r b.part refl
         by_run (e ∷ run) r = unended (λ x. absurd (cc))
 

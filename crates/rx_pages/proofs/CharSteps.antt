@@ -1,6 +1,6 @@
 -- Reading a page character by character: what its entries lead to.
-use Rattle.rx_pages.proofs.Words.{◌≡◌, ◌∙◌, ℕ, ◌+◌, ◌-◌, Bool, true, false, List, [], ◌∷◌, ◌++◌, ap, length, append-nil, Result, Ok, Err, arith, ◌&&◌, ◌||◌, ◌==◌, not, if◌then◌else◌, IsScalar, encode, Syntax, Entry, byte_order_mark, line_feed, carriage_return, as_line_end, values, Fault, Kind, TagTooLong, Limits, refl, content_at, verdict, Scanning, Scanned, first_of, is_too_long, told, read_entry, spot_of, Progress, nested_items, telling}
-use Rattle.rx_pages.specs.PageReader.{passed}
+use Rattle.rx_pages.proofs.Words.{◌≡◌, ◌∙◌, ℕ, ◌+◌, ◌-◌, Bool, true, false, List, [], ◌∷◌, ◌++◌, ap, length, append-nil, Result, Ok, Err, arith, ◌&&◌, ◌||◌, ◌==◌, not, if◌then◌else◌, IsScalar, encode, Syntax, PlacedCharacter, byte_order_mark, line_feed, carriage_return, as_line_end, values, Fault, Kind, TagTooLong, Limits, refl, content_at, verdict, Scanning, Scanned, first_of, is_too_long, told, read_entry, spot_of, Progress, nested_items, telling}
+use Rattle.rx_pages.specs.PageReader.{passed_over}
 use Rattle.rx_pages.proofs.EntrySteps.{Stood, told_bare, scanning_of, entry_step}
 use Rattle.rx_pages.proofs.ByteSteps.{scan_at, reading_at, progress_at, settle, settled, last_read}
 
@@ -8,7 +8,7 @@ use Rattle.rx_pages.proofs.ByteSteps.{scan_at, reading_at, progress_at, settle, 
 abbrev pub passes : Bool → Bool → ℕ → Bool
 passes started after_return c = not started && c == byte_order_mark || after_return && c == line_feed
 
-abbrev pub entry_at : ℕ → ℕ → ℕ → Entry
+abbrev pub entry_at : ℕ → ℕ → ℕ → PlacedCharacter
 entry_at c start last = record { value = as_line_end c; first = start; last = last }
 
 module _ (syntax : Syntax) (limits : Limits) (st : Stood) (started after_return : Bool) (c start : ℕ) (front : List ℕ) (byte : ℕ) (scalar : IsScalar c) (form : encode c ≡ front ++ byte ∷ []) where
@@ -20,7 +20,7 @@ module _ (syntax : Syntax) (limits : Limits) (st : Stood) (started after_return 
 
   abbrev by_pass : Bool → ℕ → Result Scanned Kind
   by_pass b first =
-      if b then Ok (record { next = passed s; items = [] }) else read_entry syntax limits (spot_of syntax st.nest) (c == carriage_return) (record { value = as_line_end c; first = first; last = start + length front }) s
+      if b then Ok (record { next = passed_over s; items = [] }) else read_entry syntax limits (spot_of syntax st.nest) (c == carriage_return) (record { value = as_line_end c; first = first; last = start + length front }) s
 
   same_start : start + length front - length front ≡ start
   same_start = omega arith
@@ -28,7 +28,7 @@ module _ (syntax : Syntax) (limits : Limits) (st : Stood) (started after_return 
   pub passes_on : passes started after_return c ≡ true → last_read syntax limits st started after_return c start front byte scalar form ≡ Ok (progress_at (start + length front + 1) [] true false st)
   passes_on h = rw (h, append-nil st.told) refl
 
-  abbrev pub entry : Entry
+  abbrev pub entry : PlacedCharacter
   entry = entry_at c start (start + length front)
 
   abbrev pub too_long : Bool

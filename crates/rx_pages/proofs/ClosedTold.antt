@@ -1,13 +1,13 @@
 -- What the front of a page tells, and what it tells once it is closed.
 use Rattle.rx_pages.proofs.Words.{◌≡◌, ◌∙◌, ℕ, ◌+◌, ◌≤◌, true, false, List, [], ◌∷◌, ◌++◌, Option, refl, ap, sym, subst, length, append-nil, length-append, arith, Event, content_at, Goes, IsAt, scalars-append}
-use Rattle.rx_pages.proofs.Common.{not, ◌==◌, Ok, encode_utf8_all, encodes-append, Entry, placed, Syntax, Item, Spelled, no_more, one, has_no_nul, Line, Phase, after, Limits, page_on, nothing_read, closing, closed, IsWide, AllEnd, Tells, FrontsTell}
+use Rattle.rx_pages.proofs.Common.{not, ◌==◌, Ok, encode_utf8_all, encodes-append, PlacedCharacter, placed, Syntax, Item, Spelled, no_more, one, has_no_nul, Line, Phase, after, Limits, page_on, no_progress, closing, closed, IsWide, AllEnd, TellsEvents, FrontsTell}
 use lib.Utf8.{encodes, encode}
 use Rattle.rx_pages.specs.Nesting.{not_begun}
 use Rattle.rx_pages.proofs.Closings.{page_entries, entered_tag, all_append, all_fit, last_within, Reaches, closes, as_meant, is_page, Fronted, fronted}
 use Rattle.rx_pages.proofs.FrontRead.{AllBelow, below_behind, page_below, front_is_read}
 use Rattle.rx_pages.proofs.Below.{progress_at, stood, flags_behind, one_unknown}
 
-all_end : (syntax : Syntax) (end : ℕ) {entries : List Entry} {next : Option ℕ} {items : List Item} → Spelled syntax entries next items → AllBelow end entries → AllEnd end items
+all_end : (syntax : Syntax) (end : ℕ) {entries : List PlacedCharacter} {next : Option ℕ} {items : List Item} → Spelled syntax entries next items → AllBelow end entries → AllEnd end items
 all_end syntax end no_more w = tt
 all_end syntax end (one c run rest item sp f l more) w =
     let last = last_within end c.last run rest w.0 w.1 in (omega (arith, last, l), all_end syntax end more (below_behind end run rest w.1))
@@ -19,30 +19,30 @@ less_than_encoded = refl
 module _ (syntax : Syntax) (limits : Limits) (bytes : List ℕ) (line : Line) (phase : Phase) (f : Fronted syntax limits bytes line phase) where
   -- what the reader comes to behind a front and a `<`
   pub record FrontReads : Type 0 where
-    pub tells : Tells syntax limits (bytes ++ 60 ∷ []) f.events
+    pub tells : TellsEvents syntax limits (bytes ++ 60 ∷ []) f.events
     pub place : tells.now.now.nest ≡ f.reaches.place
 
   pub front_reads : length bytes + 1 ≤ limits.page → FrontReads
   front_reads h =
       let a = f.reaches.ahead in
-      let run : List Entry = placed (length (encodes f.characters)) (60 ∷ []) in
+      let run : List PlacedCharacter = placed (length (encodes f.characters)) (60 ∷ []) in
       let same : page_entries f.characters ++ run ≡ page_entries (f.characters ++ 60 ∷ []) = sym (entered_tag f.characters [] refl) in
       let forms : encodes (f.characters ++ 60 ∷ []) ≡ bytes ++ 60 ∷ [] = encodes-append f.characters (60 ∷ []) ∙ (ap (λ x. x ++ encodes (60 ∷ [])) f.forms ∙ ap (λ x. bytes ++ x) less_than_encoded) in
       let r =
       front_is_read syntax limits (bytes ++ 60 ∷ []) (λ m. m ≡ f.reaches.place) (page_entries f.characters) run f.reaches.items f.events
       (record { characters = f.characters ++ 60 ∷ []; scalars = scalars-append f.characters (60 ∷ []) a.scalars refl; forms = forms; read = same })
-      (all_append (λ (x : Entry). not (x.value == 0)) (page_entries f.characters) run a.no_nul refl) a.spelled f.fit a.sections a.going (let l = length-append bytes (60 ∷ []) in omega (arith, l, h))
+      (all_append (λ (x : PlacedCharacter). not (x.value == 0)) (page_entries f.characters) run a.no_nul refl) a.spelled f.fit a.sections a.going (let l = length-append bytes (60 ∷ []) in omega (arith, l, h))
       (λ m p. (refl, tt)) (λ m p k. absurd (one_unknown syntax (content_at syntax m) 60 k)) in
       record {
         tells = record {
           now = progress_at (length (bytes ++ 60 ∷ [])) [] r.started r.after_return (stood r.place f.events (flags_behind f.reaches.items false false).0 (flags_behind f.reaches.items false false).1 run);
-          read = ap (λ b. page_on syntax limits (Ok nothing_read) b) (sym (append-nil (bytes ++ 60 ∷ []))) ∙ r.is_read [];
+          read = ap (λ b. page_on syntax limits (Ok no_progress) b) (sym (append-nil (bytes ++ 60 ∷ []))) ∙ r.is_read [];
           told = refl;
         };
         place = r.is_meant;
       }
 
-whole_tells : (syntax : Syntax) (limits : Limits) (cs bytes : List ℕ) (events : List Event) → encodes cs ≡ bytes → Reaches syntax limits.depth cs [] after events → (wide : Limits) → IsWide limits wide (length bytes) → Tells syntax wide bytes events
+whole_tells : (syntax : Syntax) (limits : Limits) (cs bytes : List ℕ) (events : List Event) → encodes cs ≡ bytes → Reaches syntax limits.depth cs [] after events → (wide : Limits) → IsWide limits wide (length bytes) → TellsEvents syntax wide bytes events
 whole_tells syntax limits cs bytes events e r wide w =
     let a = r.ahead in
     let sp = a.last r.at.phase_is in
@@ -54,7 +54,7 @@ whole_tells syntax limits cs bytes events e r wide w =
     sp fit a.sections going w.page (λ m p. tt) (λ m p k. absurd (cc)) in
     record {
       now = progress_at (length bytes) [] s.started s.after_return (stood s.place events (flags_behind r.items false false).0 (flags_behind r.items false false).1 []);
-      read = ap (λ b. page_on syntax wide (Ok nothing_read) b) (sym (append-nil bytes)) ∙ s.is_read [];
+      read = ap (λ b. page_on syntax wide (Ok no_progress) b) (sym (append-nil bytes)) ∙ s.is_read [];
       told = refl;
     }
 

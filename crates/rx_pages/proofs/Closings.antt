@@ -1,5 +1,5 @@
 -- The front of a page goes on to a page: what is open is closed, from the innermost element on.
-use Rattle.rx_pages.proofs.Words.{◌≡◌, ◌∙◌, ℕ, ◌+◌, ◌-◌, ◌<◌, ◌≤◌, Bool, true, false, List, [], ◌∷◌, ◌++◌, Option, Some, None, refl, ap, sym, subst, subst₂, length, append_assoc, append-nil, arith, ◌&&◌, ◌==◌, not, nat_le, codes, Ok, encode_utf8_all, list_all, len_utf8, all_scalars, encodes, scalar, encodes-append, and_from, cond-false, nat_tests, greater_than_sign, Chars, both, untrue, and-false, Entry, line_feed, carriage_return, placed, entered, without_mark, Syntax, Html, Xhtml, Tag, Token, tag, SpellsTag, Spells, a_tag, outside, is_alone, is_self_closed, is_plaintext, drops_line_feed, StartTag, values, Item, last_from, Spelled, no_more, one, Fits, AllFit, is_literal, no_section_end, start_of, has_no_nul, Document, Line, inside_of, Phase, before, within, after, Stands, not_begun, still_open, Begun, Limits, spells_each, list_all-append, Event, Nesting, Step, content_at, over, step_by, nest_step, Goes, stands, goes, IsAt, item_of, FrontsClose, end_tag, end_tags, closing, IsPage, Bare, scalars-append}
+use Rattle.rx_pages.proofs.Words.{◌≡◌, ◌∙◌, ℕ, ◌+◌, ◌-◌, ◌<◌, ◌≤◌, Bool, true, false, List, [], ◌∷◌, ◌++◌, Option, Some, None, refl, ap, sym, subst, subst₂, length, append_assoc, append-nil, arith, ◌&&◌, ◌==◌, not, nat_le, codes, Ok, encode_utf8_all, list_all, len_utf8, all_scalars, encodes, scalar, encodes-append, and_from, cond-false, nat_tests, greater_than_sign, Chars, both, untrue, and-false, PlacedCharacter, line_feed, carriage_return, placed, preprocessed, without_mark, Syntax, Html, Xhtml, Tag, Token, tag, SpellsTag, Spells, a_tag, outside, is_alone, is_self_closed, is_plaintext, drops_line_feed, StartTag, values, Item, last_from, Spelled, no_more, one, Fits, AllFit, is_literal, no_section_end, start_tag_of, has_no_nul, Document, Line, inside_of, Phase, before, within, after, Stands, not_begun, still_open, Begun, Limits, spells_each, list_all-append, Event, Nesting, Step, content_at, over, step_by, nest_step, Goes, stands, goes, IsAt, item_of_run, FrontsClose, end_tag, end_tags, closing, IsPage, Bare, scalars-append}
 use Rattle.rx_reader.proofs.Common.{ended}
 use Rattle.rx_pages.specs.Nesting as nesting
 use Rattle.rx_pages.specs.Closings.{closed}
@@ -14,11 +14,11 @@ use Rattle.rx_pages.proofs.FrontRead.{AllBelow, below_behind, page_below}
 use Rattle.rx_pages.proofs.Below.{page_behind, opening, fronts_lead, flags_behind, spelled_less, spelled_last}
 
 -- the characters of a page that are entered
-abbrev pub page_entries : List ℕ → List Entry
-page_entries cs = entered false (without_mark (placed 0 cs))
+abbrev pub page_entries : List ℕ → List PlacedCharacter
+page_entries cs = preprocessed false (without_mark (placed 0 cs))
 
 -- characters that are entered as they are
-placed_steady : (after_return : Bool) (at : ℕ) (xs : List ℕ) → list_all is_steady xs ≡ true → entered after_return (placed at xs) ≡ placed at xs
+placed_steady : (after_return : Bool) (at : ℕ) (xs : List ℕ) → list_all is_steady xs ≡ true → preprocessed after_return (placed at xs) ≡ placed at xs
 placed_steady after_return at [] s = refl
 placed_steady after_return at (x ∷ xs) s =
     let k = both (is_steady x) _ s in
@@ -51,11 +51,11 @@ fits_one : (limit : ℕ) (item : Item) (token : Token) → item.last + 1 ≤ lim
 fits_one limit item (tag t) h = omega arith
 fits_one limit item _ h = tt
 
-pub last_within : (end last : ℕ) (run rest : List Entry) → last < end → AllBelow end (run ++ rest) → last_from last run < end
+pub last_within : (end last : ℕ) (run rest : List PlacedCharacter) → last < end → AllBelow end (run ++ rest) → last_from last run < end
 last_within end last [] rest h w = h
 last_within end last (e ∷ run) rest h w = last_within end e.last run rest w.0 w.1
 
-pub all_fit : (syntax : Syntax) (limit end : ℕ) → end ≤ limit → {entries : List Entry} {next : Option ℕ} {items : List Item} → Spelled syntax entries next items → AllBelow end entries → AllFit limit items
+pub all_fit : (syntax : Syntax) (limit end : ℕ) → end ≤ limit → {entries : List PlacedCharacter} {next : Option ℕ} {items : List Item} → Spelled syntax entries next items → AllBelow end entries → AllFit limit items
 all_fit syntax limit end h no_more w = tt
 all_fit syntax limit end h (one c run rest item sp f l more) w =
     let last = last_within end c.last run rest w.0 w.1 in
@@ -100,7 +100,7 @@ module _ (syntax : Syntax) (depth : ℕ) where
     start = length (encodes cs)
 
     abbrev pub added : Item
-    added = item_of (content_at syntax place) (tag t) (placed start (60 ∷ text))
+    added = item_of_run (content_at syntax place) (tag t) (placed start (60 ∷ text))
 
     spelled_more : (next : Option ℕ) → Spelled syntax (page_entries (cs ++ 60 ∷ text)) next (items ++ added ∷ [])
     spelled_more next =
@@ -118,7 +118,7 @@ module _ (syntax : Syntax) (depth : ℕ) where
     adds step e =
         record {
           scalars = scalars-append cs (60 ∷ text) a.scalars (fair_scalars (60 ∷ text) fair_all);
-          no_nul = subst (λ es. has_no_nul es ≡ true) (sym (entered_tag cs text steady)) (all_append (λ (x : Entry). not (x.value == 0)) (page_entries cs) (placed start (60 ∷ text)) a.no_nul (some_placed start (60 ∷ text) fair_all));
+          no_nul = subst (λ es. has_no_nul es ≡ true) (sym (entered_tag cs text steady)) (all_append (λ (x : PlacedCharacter). not (x.value == 0)) (page_entries cs) (placed start (60 ∷ text)) a.no_nul (some_placed start (60 ∷ text) fair_all));
           spelled = spelled_more (Some 60);
           last = λ h. spelled_more None;
           sections = sections_snoc items added false false a.sections no_mark;
@@ -187,17 +187,17 @@ module _ (syntax : Syntax) (depth : ℕ) where
       let text : Chars = codes "html>" in
       let spells : (next : Option ℕ) → Spells syntax (content_at syntax r.place) (60 ∷ text) next (tag html_tag) = λ next. subst (λ l. Spells syntax (inside_of syntax l).content (60 ∷ text) next (tag html_tag)) (sym r.at.line_is) (a_tag text html_tag refl (html_spelled syntax)) in
       let single : Item = added cs r.items r.place events r.ahead text html_tag refl refl spells in
-      let begun : Step = record { next = record { line = start_of single html_tag ∷ []; phase = within; drops = drops_line_feed outside html_tag }; events = nesting.begins (start_of single html_tag) false ∷ [] } in
+      let begun : Step = record { next = record { line = start_tag_of single html_tag ∷ []; phase = within; drops = drops_line_feed outside html_tag }; events = nesting.begins (start_tag_of single html_tag) false ∷ [] } in
       let opens : nest_step syntax depth r.place single ≡ Ok begun =
       tag_steps [] (before stood) r.place single html_tag r.at
       ∙ (opening syntax depth [] (before stood) single html_tag refl m.allowed m.known refl (room depth d) (record { not_ended = refl; named = refl }) ∙ ap (λ (x : Step). Ok x) (cond-false _ _ _ m.holds)) in
-      let root : Reaches (cs ++ codes "<html>") (start_of single html_tag ∷ []) within (events ++ begun.events) =
+      let root : Reaches (cs ++ codes "<html>") (start_tag_of single html_tag ∷ []) within (events ++ begun.events) =
       record { items = r.items ++ single ∷ []; place = begun.next; at = record { line_is = refl; phase_is = refl }; ahead = adds cs r.items r.place events r.ahead text html_tag refl refl spells begun opens } in
       record {
-        more = nesting.begins (start_of single html_tag) false ∷ nesting.finishes ∷ [];
+        more = nesting.begins (start_tag_of single html_tag) false ∷ nesting.finishes ∷ [];
         bare = (refl, tt);
         reaches = subst₂ (λ x es. Reaches x [] after es) (append_assoc cs (codes "<html>") (codes "</html>")) (append_assoc events begun.events (nesting.finishes ∷ []))
-            (closes_one (cs ++ codes "<html>") (start_of single html_tag) [] (events ++ begun.events) (html_name syntax) root);
+            (closes_one (cs ++ codes "<html>") (start_tag_of single html_tag) [] (events ++ begun.events) (html_name syntax) root);
       }
 
   closes_line : (line : Line) (cs : List ℕ) (events : List Event) → AllNamed syntax depth line → Reaches cs line (over line).phase events → Told (cs ++ end_tags line) events

@@ -1,5 +1,5 @@
 -- Comments, instructions and sections are read as they are spelled.
-use Rattle.rx_pages.proofs.Words.{◌≡◌, ◌∙◌, ℕ, Bool, true, false, [], ◌∷◌, ◌++◌, Option, refl, ap, sym, append_assoc, inl, inr, ◌+◌, arith, ◌&&◌, not, ◌||◌, ◌-◌, codes, length, take, cond-true, cond-false, and_from, or_left, or_right, or_parts, map-append, length-append, lowered_char, greater_than_sign, Chars, begins_with, lowered, both, either, not_both_ways, by_test, and-false, take-append_seam, Syntax, Html, Xhtml, Token, comment, section, ends_with, ends_comment, begins_declaration, IsFirst, has_markup, has_sections, Content, begins_more, snoc_front, section_markup, goes_on, whole, whole_if, after_mark, in_markup, in_section, verdict, GoesOn, ReadAs}
+use Rattle.rx_pages.proofs.Words.{◌≡◌, ◌∙◌, ℕ, Bool, true, false, [], ◌∷◌, ◌++◌, Option, refl, ap, sym, append_assoc, inl, inr, ◌+◌, arith, ◌&&◌, not, ◌||◌, ◌-◌, codes, length, take, cond-true, cond-false, and_from, or_left, or_right, or_parts, map-append, length-append, lowered_char, greater_than_sign, Chars, begins_with, lowered, both, either, not_both_ways, by_test, and-false, take-append_seam, Syntax, Html, Xhtml, Token, comment, section, ends_with, ends_comment, begins_declaration, IsFirst, has_markup, has_sections, Content, begins_more, snoc_front, section_markup, goes_on, whole, whole_if, after_mark, in_markup, in_section, verdict, CharactersGoOn, ReadAs}
 use Rattle.rx_pages.proofs.Reading.{all_go, go_append, read_to, reads_first, markup_is}
 
 pub none_if : (b : Bool) (t : Token) → b ≡ false → whole_if b t ≡ goes_on
@@ -75,7 +75,7 @@ module _ (i : Content) (next : Option ℕ) (sections : has_sections i ≡ true) 
   inside_section Html a d = marks Html (33 ∷ (codes "[CDATA[" ++ a)) d ∙ cond-true _ _ _ (ap (λ b. b && true) sections)
   inside_section Xhtml a d = marks Xhtml (33 ∷ (codes "[CDATA[" ++ a)) d
 
-  begin_section : (s : Syntax) → GoesOn s i [] (codes "<![CDATA[")
+  begin_section : (s : Syntax) → CharactersGoOn s i [] (codes "<![CDATA[")
   begin_section Html = (refl, (marks Html [] 33, (at [] 91 n, (at (codes "[") 67 n, (at (codes "[C") 68 n, (at (codes "[CD") 65 n, (at (codes "[CDA") 84 n, (at (codes "[CDAT") 65 n, (at (codes "[CDATA") 91 n, tt)))))))))
     where
       n : (has_sections i && false) ≡ false

@@ -1,5 +1,5 @@
 -- What an element whose end tag may be omitted says of the contents round it.
-use Rattle.rx_pages.proofs.Words.{◌≡◌, ◌∙◌, Bool, true, false, List, [], ◌∷◌, refl, ap, ◌&&◌, not, codes, list_all, bytes_decides, Chars, both, not_both_ways, by_test, Syntax, Html, Xhtml, same, row_among, row_of, omissible_rows, Tag, Place, inside_html, place_in, is_html, is_plaintext, is_self_closed, is_foreign, is_void, is_foreign_root, is_omissible, has_row, Line, inside_of, Content}
+use Rattle.rx_pages.proofs.Words.{◌≡◌, ◌∙◌, Bool, true, false, List, [], ◌∷◌, refl, ap, ◌&&◌, not, codes, list_all, bytes_decides, Chars, both, not_both_ways, by_test, Syntax, Html, Xhtml, same, row_among, row_of, omissible_rows, Tag, Place, inside_html, place_inside, is_html, is_plaintext, is_self_closed, is_foreign, is_void, is_foreign_root, is_omissible, has_row, Line, inside_of, Content}
 use Rattle.rx_grammar.specs.declared.contents.Content.TheVariants as content
 
 pub same_is : (a b : Chars) → same a b ≡ true → a ≡ b
@@ -23,7 +23,7 @@ no_html (t ∷ above) = refl
 -- An element whose end tag may be omitted stands in content Html and holds it.
 pub record AllHtml (syntax : Syntax) (line : Line) (name : Chars) : Type 0 where
   pub here : (inside_of syntax line).content ≡ content.Html
-  pub inside : (place_in syntax (inside_of syntax line) name).content ≡ content.Html
+  pub inside : (place_inside syntax (inside_of syntax line) name).content ≡ content.Html
 
 pub omissible_html : (syntax : Syntax) (line : Line) (name : Chars) → is_omissible (inside_of syntax line) name ≡ true → AllHtml syntax line name
 omissible_html Xhtml line name h = absurd (not_both_ways _ (both _ _ h).0 (no_html line))
@@ -32,7 +32,7 @@ omissible_html Html line name h =
     let here : (inside_of Html line).content ≡ content.Html = html_is _ k.0 in
     record { here = here; inside = by (inside_of Html line) here (html_is _ (of_row (λ n. is_html (inside_html n).content) omissible_rows name refl k.1)) }
   where
-    by : (place : Place) → place.content ≡ content.Html → (inside_html name).content ≡ content.Html → (place_in Html place name).content ≡ content.Html
+    by : (place : Place) → place.content ≡ content.Html → (inside_html name).content ≡ content.Html → (place_inside Html place name).content ≡ content.Html
     by place e k = rw e k
 
 -- what is refused of a tag depends on the content alone

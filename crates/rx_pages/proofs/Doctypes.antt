@@ -1,5 +1,5 @@
 -- The document type is read as it is spelled.
-use Rattle.rx_pages.proofs.Words.{◌≡◌, ◌≢◌, ◌∙◌, ℕ, suc, ◌+◌, ◌<◌, length, Bool, true, false, [], ◌∷◌, ◌++◌, Option, Some, None, refl, ap, sym, subst, append_assoc, arith, eqb-true, ◌&&◌, ◌||◌, ◌==◌, not, codes, drop, list_all, list_any, cond-true, cond-false, or_from, or_parts, map-append, length-map, length-append, lowered_char, greater_than_sign, is_white_space, left_bracket, Chars, begins_with, lowered, both, not_both_ways, by_test, untrue, and-false, Syntax, Html, Xhtml, one_or_more, doctype, comment, cased, cased_char, has_markup, has_sections, ends_with, begins_declaration, doctype_word, IsDoctype, Content, drop-append_seam, of_one, of_white, equal, begins_append, has_end, kept_case, goes_on, DoctypePhase, keyword, spaces, naming, passed, closed, doctype_move, doctype_move_on, doctype_on, told_of_doctype, in_doctype, after_mark, in_markup, verdict, GoesOn, ReadAs, false_from_ne_true}
+use Rattle.rx_pages.proofs.Words.{◌≡◌, ◌≢◌, ◌∙◌, ℕ, suc, ◌+◌, ◌<◌, length, Bool, true, false, [], ◌∷◌, ◌++◌, Option, Some, None, refl, ap, sym, subst, append_assoc, arith, eqb-true, ◌&&◌, ◌||◌, ◌==◌, not, codes, drop, list_all, list_any, cond-true, cond-false, or_from, or_parts, map-append, length-map, length-append, lowered_char, greater_than_sign, is_white_space, left_bracket, Chars, begins_with, lowered, both, not_both_ways, by_test, untrue, and-false, Syntax, Html, Xhtml, one_or_more, doctype, comment, cased, cased_char, has_markup, has_sections, ends_with, begins_declaration, doctype_word, IsDoctype, Content, drop-append_seam, of_one, of_white, equal, begins_append, has_end, kept_case, goes_on, DoctypePhase, keyword, spaces, naming, passed, closed, doctype_move, doctype_move_on, doctype_on, told_of_doctype, in_doctype, after_mark, in_markup, verdict, CharactersGoOn, ReadAs, false_from_ne_true}
 use Rattle.rx_pages.proofs.Reading.{all_go, reads_through, markup_is}
 use Rattle.rx_pages.proofs.Comments.{none_if, bogus_at}
 
@@ -121,7 +121,7 @@ module _ (i : Content) (next : Option ℕ) (markup : has_markup i ≡ true) wher
         or_from (begins_with (codes "--") f || begins_with (codes "doctype") (lowered f)) _ (or_from (begins_with (codes "--") f) _ (begins_no 45 (45 ∷ []) f refl h) (too_short (codes "doctype") (lowered f) (length_front f d more e)))
         (ap (λ b. has_sections i && b) (begins_no 91 (codes "CDATA[") f refl h) ∙ and-false (has_sections i))
 
-    html_word : GoesOn Html i (codes "<!") word
+    html_word : CharactersGoOn Html i (codes "<!") word
     html_word = all_go Html i (codes "<!") word (λ f d more e. markup_is Html i (33 ∷ f) d markup ∙ (bogus_at i f d (undeclared f d more e) ∙ none_if _ comment (false_from_ne_true (ends_with (codes ">") (f ++ d ∷ [])) (λ h. not_both_ways (list_any (λ c. c == 62) (f ++ d ∷ [])) (has_end (f ++ d ∷ []) h) (any_front (λ c. c == 62) (f ++ d ∷ []) more (sym (ap (list_any (λ c. c == 62)) (e ∙ sym (append_assoc f (d ∷ []) more))) ∙ no_end word (codes "doctype") is_word refl))))))
 
     html_behind : (f : Chars) (d : ℕ) → after_mark Html i (word ++ f) d ≡ in_doctype Html f d
@@ -130,15 +130,15 @@ module _ (i : Content) (next : Option ℕ) (markup : has_markup i ≡ true) wher
         ∙ (cond-true _ _ _ (ap (begins_with (codes "doctype")) (map-append lowered_char word f ∙ ap (λ x. x ++ lowered f) is_word) ∙ begins_append (codes "doctype") (lowered f))
         ∙ ap (λ x. in_doctype Html x d) (ap (λ n. drop n (word ++ f)) (sym length_is) ∙ drop-append_seam word f))
 
-  xhtml_word : GoesOn Xhtml i (codes "<!") (codes "DOCTYPE")
+  xhtml_word : CharactersGoOn Xhtml i (codes "<!") (codes "DOCTYPE")
   xhtml_word = (at (codes "!") 68, (at (codes "!D") 79, (at (codes "!DO") 67, (at (codes "!DOC") 84, (at (codes "!DOCT") 89, (at (codes "!DOCTY") 80, (at (codes "!DOCTYP") 69, tt)))))))
     where
       at : (text : Chars) (c : ℕ) → verdict Xhtml i (60 ∷ text) c ≡ in_markup Xhtml i text c
       at text c = markup_is Xhtml i text c markup
 
-  word_goes : (s : Syntax) (word : Chars) → cased s word ≡ doctype_word s → GoesOn s i (codes "<!") word
+  word_goes : (s : Syntax) (word : Chars) → cased s word ≡ doctype_word s → CharactersGoOn s i (codes "<!") word
   word_goes Html word e = html_word word e
-  word_goes Xhtml word e = subst (λ w. GoesOn Xhtml i (codes "<!") w) (sym (sym (kept_case word) ∙ e)) xhtml_word
+  word_goes Xhtml word e = subst (λ w. CharactersGoOn Xhtml i (codes "<!") w) (sym (sym (kept_case word) ∙ e)) xhtml_word
 
   pub behind : (s : Syntax) (word : Chars) → cased s word ≡ doctype_word s → (f : Chars) (d : ℕ) → after_mark s i (word ++ f) d ≡ in_doctype s f d
   behind Html word e f d = html_behind word e f d

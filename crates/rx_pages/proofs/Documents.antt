@@ -1,6 +1,6 @@
 -- The tokens of a whole page lead to its end, and tell its tree.
-use Rattle.rx_grammar.proofs.Common.{◌≡◌, ◌∙◌, ℕ, suc, ◌+◌, Bool, true, false, List, [], ◌∷◌, ◌++◌, Some, refl, ap, sym, subst, arith, append-nil, not, Ok, bytes_decides, Chars, Syntax, Tag, Token, tag, character, comment, doctype, Place, outside, place_in, is_alone, hides, drops_line_feed, StartTag, Tree, end, element, after_text, has_element, Item, start_of, text_of, enders, is_ended_by, Phase, before, after}
-use Rattle.rx_grammar.specs.Pages.{Opens, Closes, Drops, shown, Holds, nothing, a_text, alone, closed, unclosed, Lead, root_name, Document, a_comment, is_between, passed, a_doctype}
+use Rattle.rx_grammar.proofs.Common.{◌≡◌, ◌∙◌, ℕ, suc, ◌+◌, Bool, true, false, List, [], ◌∷◌, ◌++◌, Some, refl, ap, sym, subst, arith, append-nil, not, Ok, bytes_decides, Chars, Syntax, Tag, Token, tag, character, comment, doctype, Place, outside, place_inside, is_alone, hides, drops_line_feed, StartTag, Tree, end, element, after_text, has_element, Item, start_tag_of, text_of, enders, is_ended_by, Phase, before, after}
+use Rattle.rx_grammar.specs.Pages.{IsStartTag, IsEndTag, Drops, shown, Holds, nothing, a_text, alone, closed, unclosed, Lead, root_name, Document, a_comment, is_between, passed, a_doctype}
 use Rattle.rx_grammar.specs.Pages as pages
 use Rattle.rx_pages.specs.Nesting.{Event, begins, finishes, Nesting, not_begun, over, step_by, told, Goes, stands, goes, with_element, told_trees}
 use Rattle.rx_pages.proofs.Nested.{Ready, Reads, Careless, not_deeper, of_token, text_steps, alone_goes, close_goes, whole, runs, nothing_shown}
@@ -72,26 +72,26 @@ module _ (syntax : Syntax) (depth : ℕ) (meant : Nesting → Type 0) (careless 
 
   -- the root, with the tree that is its element
   pub root_reads : {left : ℕ} {place : Place} {parent : Chars} {from to : List Item} {nodes : Tree} (root : Item) (t : Tag) (inside : Tree) (stood : Bool) → Holds syntax left place parent (root ∷ from) to nodes → place ≡ outside → left ≡ depth
-      → root.token ≡ tag t → t.name ≡ root_name → nodes ≡ element (start_of root t) inside end → (later : List Event) → Goes syntax depth meant (over []) to later → told_trees later ≡ end ∷ []
-      → Reads syntax depth meant (outside_at (before stood)) (root ∷ from) later (element (start_of root t) inside end)
+      → root.token ≡ tag t → t.name ≡ root_name → nodes ≡ element (start_tag_of root t) inside end → (later : List Event) → Goes syntax depth meant (over []) to later → told_trees later ≡ end ∷ []
+      → Reads syntax depth meant (outside_at (before stood)) (root ∷ from) later (element (start_tag_of root t) inside end)
   root_reads root t inside stood nothing p d k n e later g told = absurd (cc)
   root_reads root t inside stood (a_text item chars c h hs) p d k n e later g told = absurd (let w : text_of (tag t) ≡ Some chars = sym (ap text_of k) ∙ h in cc)
   root_reads root t inside stood (a_comment item c h hs) p d k n e later g told = absurd (let w : tag t ≡ comment = sym k ∙ h in cc)
   root_reads root t inside stood (alone {left = left} {from = from} {nodes = nodes} item u o is hs) p d k n e later g told =
-      let f = is_element (start_of root u) (start_of root t) end inside nodes e in
+      let f = is_element (start_tag_of root u) (start_tag_of root t) end inside nodes e in
       subst (λ x. Reads syntax depth meant (outside_at (before stood)) (root ∷ from) later x) f.is (record {
-        events = begins (start_of root u) (hides outside u) ∷ finishes ∷ later;
-        going = alone_goes syntax depth meant careless [] (before stood) root u from later (subst (λ x. Opens syntax x root u) p o) refl (not_deeper depth 0 left (room left d)) (root_ready stood u.name (f.is_name ∙ n)) (sym (ap (λ x. is_alone syntax x u) p) ∙ is)
+        events = begins (start_tag_of root u) (hides outside u) ∷ finishes ∷ later;
+        going = alone_goes syntax depth meant careless [] (before stood) root u from later (subst (λ x. IsStartTag syntax x root u) p o) refl (not_deeper depth 0 left (room left d)) (root_ready stood u.name (f.is_name ∙ n)) (sym (ap (λ x. is_alone syntax x u) p) ∙ is)
             (trails syntax depth meant hs p f.ends later g);
-        tells = λ more e2. ap (λ ts. with_element (start_of root u) (hides outside u) (end ∷ ts)) e2 ∙ ap (λ x. element (start_of root u) x end ∷ more) (nothing_shown syntax depth meant careless (hides outside u));
+        tells = λ more e2. ap (λ ts. with_element (start_tag_of root u) (hides outside u) (end ∷ ts)) e2 ∙ ap (λ x. element (start_tag_of root u) x end ∷ more) (nothing_shown syntax depth meant careless (hides outside u));
       })
   root_reads root t inside stood (closed {left = left} {place = place} {from = from} {inner = inner} {after = rest} {inside = inner_tree} {nodes = nodes} item close u o isnt drop hin no_row c hs) p d k n e later g told =
-      let f = is_element (start_of root u) (start_of root t) (shown (hides place u) inner_tree) inside nodes e in
-      let g2 = close_goes syntax depth meant careless [] (start_of root u) close rest later (subst (λ x. Closes (place_in syntax x u.name).content u.name close) p c) (trails syntax depth meant hs p f.ends later g) in
-      let i = runs syntax depth meant careless hin (start_of root u) [] (ap (λ x. place_in syntax x u.name) p) refl (omega arith) (sym (ap (λ x. has_element (enders x u.name) inner_tree) p) ∙ no_row) (finishes ∷ later) g2 in
+      let f = is_element (start_tag_of root u) (start_tag_of root t) (shown (hides place u) inner_tree) inside nodes e in
+      let g2 = close_goes syntax depth meant careless [] (start_tag_of root u) close rest later (subst (λ x. IsEndTag (place_inside syntax x u.name).content u.name close) p c) (trails syntax depth meant hs p f.ends later g) in
+      let i = runs syntax depth meant careless hin (start_tag_of root u) [] (ap (λ x. place_inside syntax x u.name) p) refl (omega arith) (sym (ap (λ x. has_element (enders x u.name) inner_tree) p) ∙ no_row) (finishes ∷ later) g2 in
       subst (λ x. Reads syntax depth meant (outside_at (before stood)) (root ∷ from) later x) f.is
-      (whole syntax depth meant careless [] (before stood) left root u from inner inner_tree end later later i (subst (λ x. Opens syntax x root u) p o) refl (room left d) (root_ready stood u.name (f.is_name ∙ n)) (sym (ap (λ x. is_alone syntax x u) p) ∙ isnt)
-      (subst (λ x. Drops (drops_line_feed x u) (place_in syntax x u.name).content from inner) p drop) (ap (λ x. hides x u) p) (λ more e2. e2))
+      (whole syntax depth meant careless [] (before stood) left root u from inner inner_tree end later later i (subst (λ x. IsStartTag syntax x root u) p o) refl (room left d) (root_ready stood u.name (f.is_name ∙ n)) (sym (ap (λ x. is_alone syntax x u) p) ∙ isnt)
+      (subst (λ x. Drops (drops_line_feed x u) (place_inside syntax x u.name).content from inner) p drop) (ap (λ x. hides x u) p) (λ more e2. e2))
   root_reads root t inside stood (unclosed {parent = parent} {after = rest} item u o isnt drop hin no_row omits hs) p d k n e later g told = absurd (let q : false ≡ true = sym (no_end_outside parent u.name rest) ∙ (sym (ap (λ x. is_ended_by x parent u.name rest) p) ∙ omits) in cc)
 
 -- what a page's tokens tell

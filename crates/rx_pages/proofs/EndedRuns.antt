@@ -1,6 +1,6 @@
 -- A token that the next character tells is a run that stays text.
-use Rattle.rx_reader.proofs.Common.{◌≡◌, ℕ, Bool, true, false, [], ◌∷◌, ◌++◌, sym, Option, Some, None, Result, Ok, Err, ◌&&◌, ◌==◌, not, if◌then◌else◌, ◌-◌, codes, length, take, drop, ampersand, less_than_sign, greater_than_sign, Chars, begins_with, Syntax, Html, Xhtml, is_name, meaning, Token, tag, character, reference, kept, section, comment, doctype, ends_with, has_sections, has_less_than, begins_markup, raw_name, exclamation_mark, meets_opening, Content, Kind, BadDoctype, BadReference, BadTag, Outside, StrictText, UnknownReference, is_html, TagState, fresh, tag_on, tag_of}
-use Rattle.rx_pages.specs.Scanner.{Verdict, goes_on, whole, ended, refused, told_of_tag, in_tag, told_of_reference, in_run, DoctypePhase, keyword, closed, told_of_doctype, in_doctype, in_section, after_mark, after_question, after_less_than, is_mark, doctype_on, verdict}
+use Rattle.rx_reader.proofs.Common.{◌≡◌, ℕ, Bool, true, false, [], ◌∷◌, ◌++◌, sym, Option, Some, None, Result, Ok, Err, ◌&&◌, ◌==◌, not, if◌then◌else◌, ◌-◌, codes, length, take, drop, ampersand, less_than_sign, greater_than_sign, Chars, begins_with, Syntax, Html, Xhtml, is_name, meaning, Token, tag, character, reference, kept, section, comment, doctype, ends_with, has_sections, has_less_than, begins_markup, raw_name, exclamation_mark, meets_opening, Content, Kind, BadDoctype, BadReference, BadTag, Outside, StrictText, UnknownReference, is_html_syntax, TagState, fresh, tag_on, tag_of}
+use Rattle.rx_pages.specs.Scanner.{Verdict, goes_on, whole, ended, refused, told_of_tag, in_tag, told_of_reference, in_run, DoctypePhase, keyword, closed, told_of_doctype, in_doctype, in_section, after_mark, after_question, after_less_than, is_markup_sign, doctype_on, verdict}
 use Rattle.rx_pages.proofs.TokenWalk.{IsKept, is_kept}
 
 abbrev Keeps : Verdict → Type 0
@@ -59,7 +59,7 @@ question_keeps Html text c = choose _ (is_whole comment) on
 question_keeps Xhtml text c = choose _ (is_whole comment) on
 
 less_keeps : (s : Syntax) (i : Content) (name : Option Chars) (text : Chars) (c : ℕ) → Keeps (after_less_than s i name text c)
-less_keeps s i None [] c = choose (is_mark c) on (choose (is_html s && not (begins_markup c)) (choose (has_less_than i) (is_ended (less_than_sign ∷ [])) (is_refused Outside)) (tag_keeps s [] c))
+less_keeps s i None [] c = choose (is_markup_sign c) on (choose (is_html_syntax s && not (begins_markup c)) (choose (has_less_than i) (is_ended (less_than_sign ∷ [])) (is_refused Outside)) (tag_keeps s [] c))
 less_keeps s i None (d ∷ text) c = choose _ (mark_keeps s i text c) (choose _ (question_keeps s text c) (tag_keeps s (d ∷ text) c))
 less_keeps s i (Some name) text c = choose _ on (choose _ (is_ended (less_than_sign ∷ text)) (tag_keeps s text c))
 

@@ -1,19 +1,19 @@
 -- The reader of bytes finds each fault.
-use Rattle.rx_pages.proofs.Words.{◌≡◌, ◌≢◌, ◌∙◌, ⊎_elim, ℕ, ◌+◌, ◌-◌, ◌<◌, ◌≤◌, true, false, List, [], ◌∷◌, ◌++◌, refl, sym, ap, subst, length, append-nil, Ok, Err, eqb-true, arith, nat_le, ◌&&◌, ◌==◌, if◌then◌else◌, Chars, Syntax, More, Char, Bad, answer_of, IsCharacter, BeginsCharacter, BeginNone, Entry, values, Item, Line, inside_of, Phase, after, is_known_tag, token_of, IsShort, IsPending, Reached, IsPart, answer_is, Content, Kind, Limits, IsAt, GoesOn, Scanning, first_of, spot_of, is_too_long, token_at, Progress, page_on, page_read, nothing_read, end_of, read_byte, read_answer, read_char, holding, fault_in, is_over, is_none_left, false_from_ne_true}
+use Rattle.rx_pages.proofs.Words.{◌≡◌, ◌≢◌, ◌∙◌, ⊎_elim, ℕ, ◌+◌, ◌-◌, ◌<◌, ◌≤◌, true, false, List, [], ◌∷◌, ◌++◌, refl, sym, ap, subst, length, append-nil, Ok, Err, eqb-true, arith, nat_le, ◌&&◌, ◌==◌, if◌then◌else◌, Chars, Syntax, More, Char, Bad, answer_of, IsCharacter, BeginsCharacter, BeginNone, PlacedCharacter, values, Item, Line, inside_of, Phase, after, is_known_tag, token_of, IsShort, IsPending, Reached, IsPart, answer_is, Content, Kind, Limits, IsAt, CharactersGoOn, Scanning, first_of, spot_of, is_too_long, token_at, Progress, page_on, page_read, no_progress, page_ended, read_byte, read_answer, read_char, holding, fault_in, is_over, is_none_left, false_from_ne_true}
 use Rattle.rx_grammar.specs.declared.faults.Kind.TheVariants as kind
 use Rattle.rx_grammar.specs.PageFaults as faults
-use Rattle.rx_pages.specs.Laws.{Leads as FrontLeads}
+use Rattle.rx_pages.specs.Laws.{TokensLead as FrontLeads}
 use Rattle.rx_pages.proofs.CharWalk.{is_known}
 use Rattle.rx_pages.proofs.FrontRead.{FrontIsRead, front_is_read}
 use Rattle.rx_pages.proofs.FaultWalk.{fault_stays}
 use Rattle.rx_pages.proofs.Below.{fronts_lead, Stood, not_le, is_le, progress_at, scan_at, part_on, first_known, token_first, stood, flags_behind}
 
 abbrev pub PendingGoes : Type 0
-PendingGoes = (syntax : Syntax) (inside : Content) (run : Chars) → IsPending syntax inside run → GoesOn syntax inside [] run
+PendingGoes = (syntax : Syntax) (inside : Content) (run : Chars) → IsPending syntax inside run → CharactersGoOn syntax inside [] run
 
 module _ (pending_goes : PendingGoes) (syntax : Syntax) (limits : Limits) where
   -- the reader stands where the front and its run end
-  module _ (whole : List ℕ) (items : List Item) (line : Line) (phase : Phase) (run : List Entry) (reached : Reached syntax limits whole items line phase run) (pending : IsPending syntax (inside_of syntax line).content (values run))
+  module _ (whole : List ℕ) (items : List Item) (line : Line) (phase : Phase) (run : List PlacedCharacter) (reached : Reached syntax limits whole items line phase run) (pending : IsPending syntax (inside_of syntax line).content (values run))
       (size : length whole ≤ limits.page) (short : IsShort syntax limits line run (token_of whole run) (length whole)) where
     abbrev pub lead : FrontLeads syntax limits.depth items line phase
     lead = fronts_lead syntax limits.depth items line phase reached.stands
@@ -24,7 +24,7 @@ module _ (pending_goes : PendingGoes) (syntax : Syntax) (limits : Limits) where
     pub stands_there : FrontIsRead syntax limits whole (IsAt line phase) items lead.events run reached.read.characters
     stands_there =
         front_is_read syntax limits whole (IsAt line phase) reached.front run items lead.events reached.read reached.no_nul reached.spelled reached.fit reached.sections lead.going size
-        (λ m p. subst (λ (l : Line). GoesOn syntax (inside_of syntax l).content [] (values run)) (sym p.line_is) (pending_goes syntax (inside_of syntax line).content (values run) pending))
+        (λ m p. subst (λ (l : Line). CharactersGoOn syntax (inside_of syntax l).content [] (values run)) (sym p.line_is) (pending_goes syntax (inside_of syntax line).content (values run) pending))
         (λ m p k. (let w = subst (λ (l : Line). is_known_tag syntax (inside_of syntax l).content (values run) ≡ true) p.line_is k in let s = short w in let t = token_known 0 w in omega arith))
 
     abbrev pub state : Stood
@@ -35,7 +35,7 @@ module _ (pending_goes : PendingGoes) (syntax : Syntax) (limits : Limits) where
 
     -- and then within a character
     pub at_part : (part rest : List ℕ) → IsPart part → length whole + length part ≤ limits.page → IsShort syntax limits line run (token_of whole run) (length whole + length part)
-        → page_on syntax limits (Ok nothing_read) (whole ++ (part ++ rest)) ≡ page_on syntax limits (Ok (progress_at (length whole + length part) part stands_there.started stands_there.after_return state)) rest
+        → page_on syntax limits (Ok no_progress) (whole ++ (part ++ rest)) ≡ page_on syntax limits (Ok (progress_at (length whole + length part) part stands_there.started stands_there.after_return state)) rest
     at_part part rest is p k =
         stands_there.is_read (part ++ rest)
         ∙ (let z : length whole ≡ length whole + 0 = omega arith in
@@ -84,15 +84,15 @@ module _ (pending_goes : PendingGoes) (syntax : Syntax) (limits : Limits) where
 
     -- the page ends too early
     pub page_ends : (part : List ℕ) → IsPart part → length whole + length part ≤ limits.page → IsShort syntax limits line run (token_of whole run) (length whole + length part) → (run ≡ [] → part ≡ [] → phase ≢ after)
-        → end_of (page_read syntax limits (whole ++ part)) ≡ Err (record { kind = kind.Unended; token = token_of whole run; at = length whole + length part })
+        → page_ended (page_read syntax limits (whole ++ part)) ≡ Err (record { kind = kind.Unended; token = token_of whole run; at = length whole + length part })
     page_ends part is p k open_there =
-        ap end_of (ap (λ x. page_on syntax limits (Ok nothing_read) (whole ++ x)) (sym (append-nil part)) ∙ at_part part [] is p k)
+        ap page_ended (ap (λ x. page_on syntax limits (Ok no_progress) (whole ++ x)) (sym (append-nil part)) ∙ at_part part [] is p k)
         ∙ (ap (λ b. if b then Ok final else Err (fault_in final.now.scan kind.Unended)) (not_over part run stands_there.place.phase (λ n m h. open_there m n (sym stands_there.is_meant.phase_is ∙ h)))
         ∙ ap (λ t. Err (record { kind = kind.Unended; token = t; at = length whole + length part })) (token_there part 0 []))
       where
         final : Progress
         final = progress_at (length whole + length part) part stands_there.started stands_there.after_return state
 
-        not_over : (part : List ℕ) (run : List Entry) (phase : Phase) → (part ≡ [] → run ≡ [] → phase ≢ after) → (is_none_left part && is_none_left run && is_over phase) ≡ false
+        not_over : (part : List ℕ) (run : List PlacedCharacter) (phase : Phase) → (part ≡ [] → run ≡ [] → phase ≢ after) → (is_none_left part && is_none_left run && is_over phase) ≡ false
         not_over [] [] after h = absurd (h refl refl refl)
         not_over _ _ _ h = refl

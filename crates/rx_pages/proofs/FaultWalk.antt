@@ -1,5 +1,5 @@
 -- Reading a character of a page that decides a fault.
-use Rattle.rx_pages.proofs.Words.{◌≡◌, ◌∙◌, ◌⊎◌, ⊎_elim, ℕ, ◌+◌, ◌-◌, ◌<◌, ◌≤◌, Bool, true, false, List, [], ◌∷◌, ◌++◌, refl, sym, ap, subst, length, Ok, Err, arith, ◌==◌, IsScalar, len_utf8, encode, length-encode, length-append, Syntax, Entry, Fault, Kind, TagTooLong, Limits, first_of, is_too_long, spot_of, page_on}
+use Rattle.rx_pages.proofs.Words.{◌≡◌, ◌∙◌, ◌⊎◌, ⊎_elim, ℕ, ◌+◌, ◌-◌, ◌<◌, ◌≤◌, Bool, true, false, List, [], ◌∷◌, ◌++◌, refl, sym, ap, subst, length, Ok, Err, arith, ◌==◌, IsScalar, len_utf8, encode, length-encode, length-append, Syntax, PlacedCharacter, Fault, Kind, TagTooLong, Limits, first_of, is_too_long, spot_of, page_on}
 use Rattle.rx_pages.proofs.CharWalk.{is_known}
 use Rattle.rx_pages.proofs.Below.{Stood, entry_step, progress_at, passes, entry_on, entry_at, too_long_at, to_last, len_positive, Last, no_last, a_last, last_of}
 
@@ -8,11 +8,11 @@ fault_stays syntax limits fault [] = refl
 fault_stays syntax limits fault (b ∷ bytes) = fault_stays syntax limits fault bytes
 
 module _ (syntax : Syntax) (limits : Limits) where
-  abbrev pub fault_of : Stood → Entry → Kind → Fault
+  abbrev pub fault_of : Stood → PlacedCharacter → Kind → Fault
   fault_of st e kind = record { kind = kind; token = first_of st.run e.first; at = e.last }
 
   -- the entry decides this fault
-  abbrev pub Decides : Stood → Entry → Fault → Type 0
+  abbrev pub Decides : Stood → PlacedCharacter → Fault → Type 0
   Decides st e f =
       ((is_too_long syntax limits (spot_of syntax st.nest) (st.run ++ e ∷ []) (first_of st.run e.first) e.last ≡ true) × (f ≡ fault_of st e TagTooLong))
       ⊎ ((is_too_long syntax limits (spot_of syntax st.nest) (st.run ++ e ∷ []) (first_of st.run e.first) e.last ≡ false) × ((entry_step syntax limits st e ≡ Err f.kind) × (f ≡ fault_of st e f.kind)))

@@ -1,5 +1,5 @@
 -- The reader of bytes finds each fault of the grammar.
-use Rattle.rx_pages.proofs.Words.{◌≡◌, ◌≢◌, ◌∙◌, ⊎_elim, inl, inr, ℕ, ◌+◌, ◌<◌, ◌≤◌, Bool, true, false, List, [], ◌∷◌, ◌++◌, refl, sym, ap, subst, length, Some, Result, Err, arith, nat_le, ◌&&◌, not, greater_than_sign, right_bracket, Chars, and-false, length-append, Syntax, Entry, Tag, Token, tag, character, doctype, values, Item, is_literal, is_strict_literal, Line, inside_of, Phase, before, is_known_tag, token_of, IsPending, IsShort, Unfinished, Reached, first_row, tag_rows, Faulty, FaultAt, Before, ends_in_brackets, Content, Fault, Kind, Limits, Event, Nesting, content_at, IsAt, step_by, unless_refused, tag_passes, GoesOn, Verdict, whole, refused, verdict, first_of, spot_of, may_lead, item_of, is_doctype, read_byte, page_read, end_of, Decides, by_character, by_token, by_section_end}
+use Rattle.rx_pages.proofs.Words.{◌≡◌, ◌≢◌, ◌∙◌, ⊎_elim, inl, inr, ℕ, ◌+◌, ◌<◌, ◌≤◌, Bool, true, false, List, [], ◌∷◌, ◌++◌, refl, sym, ap, subst, length, Some, Result, Err, arith, nat_le, ◌&&◌, not, greater_than_sign, right_bracket, Chars, and-false, length-append, Syntax, PlacedCharacter, Tag, Token, tag, character, doctype, values, Item, is_literal, is_strict_literal, Line, inside_of, Phase, before, is_known_tag, token_of, IsPending, IsShort, Unfinished, Reached, first_row, tag_rows, Faulty, FaultAt, Before, ends_in_brackets, Content, Fault, Kind, Limits, Event, Nesting, content_at, IsAt, step_by, unless_refused, tag_passes, CharactersGoOn, Verdict, whole, refused, verdict, first_of, spot_of, may_lead, item_of_run, is_doctype, read_byte, page_read, page_ended, Decides, by_character, by_token, by_section_end}
 use Rattle.rx_grammar.specs.declared.contents.Content.TheVariants as content
 use Rattle.rx_grammar.specs.declared.faults.Kind.TheVariants as kind
 use Rattle.rx_grammar.specs.PageFaults as faults
@@ -10,8 +10,8 @@ use Rattle.rx_pages.proofs.Judged.{goes, refused_row, not_first, faults_are_deci
 use Rattle.rx_pages.proofs.Below.{Stood, scanning_of, nested_by, entry_step, not_long, is_le, stood, flags_behind, two_lasts, known_snoc, first_known, values_append, token_of_item}
 
 -- what begins a token goes on
-pub pending_goes : (s : Syntax) (i : Content) (run : Chars) → IsPending s i run → GoesOn s i [] run
-pending_goes s i run p = ⊎_elim (λ e. subst (λ x. GoesOn s i [] x) (sym e) tt) (goes s i run) p
+pub pending_goes : (s : Syntax) (i : Content) (run : Chars) → IsPending s i run → CharactersGoOn s i [] run
+pending_goes s i run p = ⊎_elim (λ e. subst (λ x. CharactersGoOn s i [] x) (sym e) tt) (goes s i run) p
 
 -- two brackets stand before
 pub brackets_before : (items : List Item) (two last : Bool) → ends_in_brackets items ≡ true → (flags_behind items two last).0 ≡ true
@@ -30,11 +30,11 @@ no_lead (before true) n = refl
 no_lead (before false) n = absurd (n refl)
 no_lead _ n = refl
 
-pub item_content : (i : Content) (token : Token) (run : List Entry) (e : Entry) → (item_of i token (run ++ e ∷ [])).content ≡ i
+pub item_content : (i : Content) (token : Token) (run : List PlacedCharacter) (e : PlacedCharacter) → (item_of_run i token (run ++ e ∷ [])).content ≡ i
 item_content i token [] e = refl
 item_content i token (d ∷ run) e = refl
 
-module _ (syntax : Syntax) (limits : Limits) (m : Nesting) (events : List Event) (two last : Bool) (run : List Entry) (c : Entry) where
+module _ (syntax : Syntax) (limits : Limits) (m : Nesting) (events : List Event) (two last : Bool) (run : List PlacedCharacter) (c : PlacedCharacter) where
   abbrev inside : Content
   inside = content_at syntax m
 
@@ -45,7 +45,7 @@ module _ (syntax : Syntax) (limits : Limits) (m : Nesting) (events : List Event)
   reads v = nested_by syntax limits.depth st (told_by syntax limits (spot_of syntax m) false c (scanning_of st) v)
 
   abbrev item : Token → Item
-  item token = item_of inside token (run ++ c ∷ [])
+  item token = item_of_run inside token (run ++ c ∷ [])
 
   by_bracket : inside ≡ content.Strict → two ≡ true → verdict syntax inside (values run) c.value ≡ whole (character 62) → entry_step syntax limits st c ≡ Err kind.StrictText
   by_bracket i t h = rw (h, t, token_of_item inside (character 62) (run ++ c ∷ []), item_content inside (character 62) run c, i) refl
@@ -62,7 +62,7 @@ module _ (syntax : Syntax) (limits : Limits) (m : Nesting) (events : List Event)
       rw (h, no_bracket (tag t) (λ d e. cc), ap (λ token. is_doctype token && not (may_lead m.phase)) is, ap (λ token. step_by syntax limits.depth m (item (tag t)) token) is ∙ ap (λ row. unless_refused row (tag_passes syntax m.line (item (tag t)) t)) r) refl
 
 -- a fault of a token is the reader's
-module _ (syntax : Syntax) (limits : Limits) (items : List Item) (line : Line) (phase : Phase) (run : List Entry) (c : Entry) (m : Nesting) (at : IsAt line phase m) (events : List Event) where
+module _ (syntax : Syntax) (limits : Limits) (items : List Item) (line : Line) (phase : Phase) (run : List PlacedCharacter) (c : PlacedCharacter) (m : Nesting) (at : IsAt line phase m) (events : List Event) where
   abbrev place : Content
   place = (inside_of syntax line).content
 
@@ -97,7 +97,7 @@ module _ (syntax : Syntax) (limits : Limits) (items : List Item) (line : Line) (
           by_bracket syntax limits m events (flags_behind items false false).0 (flags_behind items false false).1 run c (same_place ∙ i) (brackets_before items false false b) (there_is [] 62 (whole (character 62)) e (ap (λ x. verdict syntax x [] 62) i))
 
 -- the token of a run with one more character
-pub token_snoc : (bytes_before : List ℕ) (run : List Entry) (c : Entry) → token_of bytes_before (run ++ c ∷ []) ≡ first_of run c.first
+pub token_snoc : (bytes_before : List ℕ) (run : List PlacedCharacter) (c : PlacedCharacter) → token_of bytes_before (run ++ c ∷ []) ≡ first_of run c.first
 token_snoc bytes_before [] c = refl
 token_snoc bytes_before (e ∷ run) c = refl
 
@@ -111,22 +111,22 @@ module _ (syntax : Syntax) (limits : Limits) where
     short_whole k = let s = short k in let a = b.at_is in let t = b.token_is in omega arith
 
     pub byte_is_read : (found : Kind) → read_byte syntax limits (spot_of syntax (stands_there pending_goes syntax limits b.whole b.items b.line b.phase b.run b.reached b.pending at_end short_whole).place) b.byte (scan_there pending_goes syntax limits b.whole b.items b.line b.phase b.run b.reached b.pending at_end short_whole b.part b.byte b.rest) ≡ Err found
-        → end_of (page_read syntax limits bytes) ≡ Err (record { kind = found; token = token; at = at })
+        → page_ended (page_read syntax limits bytes) ≡ Err (record { kind = found; token = token; at = at })
     byte_is_read found h =
-        ap (λ x. end_of (page_read syntax limits x)) b.are
-        ∙ (ap end_of (byte_fault pending_goes syntax limits b.whole b.items b.line b.phase b.run b.reached b.pending at_end short_whole b.part b.byte b.rest b.is_part (let a = b.at_is in omega arith) (λ k. (let s = short k in let a = b.at_is in let t = b.token_is in omega arith)) found h)
+        ap (λ x. page_ended (page_read syntax limits x)) b.are
+        ∙ (ap page_ended (byte_fault pending_goes syntax limits b.whole b.items b.line b.phase b.run b.reached b.pending at_end short_whole b.part b.byte b.rest b.is_part (let a = b.at_is in omega arith) (λ k. (let s = short k in let a = b.at_is in let t = b.token_is in omega arith)) found h)
         ∙ (λ i. Err (record { kind = found; token = sym b.token_is i; at = sym b.at_is i })))
 
   -- a fault that a character decides
-  pub character_is_read : (bytes bytes_before rest : List ℕ) (items : List Item) (line : Line) (phase : Phase) (run : List Entry) (c : Entry) (found : Kind) → bytes ≡ bytes_before ++ rest → Reached syntax limits bytes_before items line phase (run ++ c ∷ []) → IsPending syntax (inside_of syntax line).content (values run)
+  pub character_is_read : (bytes bytes_before rest : List ℕ) (items : List Item) (line : Line) (phase : Phase) (run : List PlacedCharacter) (c : PlacedCharacter) (found : Kind) → bytes ≡ bytes_before ++ rest → Reached syntax limits bytes_before items line phase (run ++ c ∷ []) → IsPending syntax (inside_of syntax line).content (values run)
       → Faulty syntax limits.depth items line phase (inside_of syntax line).content found (values (run ++ c ∷ [])) → IsShort syntax limits line (run ++ c ∷ []) (token_of bytes_before (run ++ c ∷ [])) (c.last + 1) → c.last < limits.page
-      → end_of (page_read syntax limits bytes) ≡ Err (record { kind = found; token = token_of bytes_before (run ++ c ∷ []); at = c.last })
+      → page_ended (page_read syntax limits bytes) ≡ Err (record { kind = found; token = token_of bytes_before (run ++ c ∷ []); at = c.last })
   character_is_read bytes bytes_before rest items line phase run c found are reached pending faulty short below =
       let token_is = token_snoc bytes_before run c in
       let f : Fault = record { kind = found; token = token_of bytes_before (run ++ c ∷ []); at = c.last } in
       let bound : is_known_tag syntax (inside_of syntax line).content (values (run ++ c ∷ [])) ≡ true → c.last < first_of run c.first + limits.tag = λ k. (let s = short k in omega arith) in
-      ap (λ x. end_of (page_read syntax limits x)) are
-      ∙ ap end_of (decided_is_read syntax limits bytes_before items line phase run c f reached (pending_goes syntax (inside_of syntax line).content (values run) pending) below
+      ap (λ x. page_ended (page_read syntax limits x)) are
+      ∙ ap page_ended (decided_is_read syntax limits bytes_before items line phase run c f reached (pending_goes syntax (inside_of syntax line).content (values run) pending) below
       (λ k. (let s = bound (known_snoc syntax (inside_of syntax line).content run c k) in let t = first_known syntax (inside_of syntax line).content run 0 c.first k in omega arith))
       (λ m at events. inr (
         not_long (is_known_tag syntax (content_at syntax m) (values (run ++ c ∷ []))) (first_of run c.first + limits.tag) c.last (λ k. bound (subst (λ (l : Line). is_known_tag syntax (inside_of syntax l).content (values (run ++ c ∷ [])) ≡ true) at.line_is k)),
@@ -135,13 +135,13 @@ module _ (syntax : Syntax) (limits : Limits) where
       rest)
 
   -- a tag that is known at the character that passes its limit
-  pub known_is_read : (bytes bytes_before rest : List ℕ) (items : List Item) (line : Line) (phase : Phase) (first : Entry) (more : List Entry) (c : Entry) → bytes ≡ bytes_before ++ rest → Reached syntax limits bytes_before items line phase ((first ∷ more) ++ c ∷ [])
+  pub known_is_read : (bytes bytes_before rest : List ℕ) (items : List Item) (line : Line) (phase : Phase) (first : PlacedCharacter) (more : List PlacedCharacter) (c : PlacedCharacter) → bytes ≡ bytes_before ++ rest → Reached syntax limits bytes_before items line phase ((first ∷ more) ++ c ∷ [])
       → Unfinished syntax (inside_of syntax line).content (values (first ∷ more)) → is_known_tag syntax (inside_of syntax line).content (values (first ∷ more)) ≡ false → is_known_tag syntax (inside_of syntax line).content (values ((first ∷ more) ++ c ∷ [])) ≡ true
-      → first.first + limits.tag ≤ c.last → c.last < limits.page → end_of (page_read syntax limits bytes) ≡ Err (record { kind = kind.TagTooLong; token = first.first; at = c.last })
+      → first.first + limits.tag ≤ c.last → c.last < limits.page → page_ended (page_read syntax limits bytes) ≡ Err (record { kind = kind.TagTooLong; token = first.first; at = c.last })
   known_is_read bytes bytes_before rest items line phase first more c are reached pending unknown known long below =
       let f : Fault = record { kind = kind.TagTooLong; token = first.first; at = c.last } in
-      ap (λ x. end_of (page_read syntax limits x)) are
-      ∙ ap end_of (decided_is_read syntax limits bytes_before items line phase (first ∷ more) c f reached (pending_goes syntax (inside_of syntax line).content (values (first ∷ more)) (inr pending)) below
+      ap (λ x. page_ended (page_read syntax limits x)) are
+      ∙ ap page_ended (decided_is_read syntax limits bytes_before items line phase (first ∷ more) c f reached (pending_goes syntax (inside_of syntax line).content (values (first ∷ more)) (inr pending)) below
       (λ k. absurd (let w : true ≡ false = sym k ∙ unknown in cc))
       (λ m at events. inl (
         ap (λ b. b && nat_le (first.first + limits.tag) c.last) (subst (λ (l : Line). is_known_tag syntax (inside_of syntax l).content (values ((first ∷ more) ++ c ∷ [])) ≡ true) (sym at.line_is) known) ∙ is_le (first.first + limits.tag) c.last long,
@@ -149,7 +149,7 @@ module _ (syntax : Syntax) (limits : Limits) where
       ))
       rest)
 
-pub fault_is_read : (syntax : Syntax) (limits : Limits) (bytes : List ℕ) (fault : Fault) → FaultAt syntax limits bytes fault → end_of (page_read syntax limits bytes) ≡ Err fault
+pub fault_is_read : (syntax : Syntax) (limits : Limits) (bytes : List ℕ) (fault : Fault) → FaultAt syntax limits bytes fault → page_ended (page_read syntax limits bytes) ≡ Err fault
 fault_is_read syntax limits bytes _ (faults.page_too_long token at b p s) =
     byte_is_read syntax limits bytes token at b (omega arith) s kind.PageTooLong
     (page_too_long pending_goes syntax limits b.whole b.items b.line b.phase b.run b.reached b.pending (at_end syntax limits bytes token at b (omega arith) s) (short_whole syntax limits bytes token at b (omega arith) s) b.part b.byte b.rest (let a = b.at_is in omega arith))
@@ -166,6 +166,6 @@ fault_is_read syntax limits bytes _ (faults.known_too_long bytes_before rest ite
 fault_is_read syntax limits bytes _ (faults.decided {found = found} bytes_before rest items line phase run c are r pending f s p) = character_is_read syntax limits bytes bytes_before rest items line phase run c found are r pending f s p
 fault_is_read syntax limits bytes _ (faults.unended bytes_before part items line phase run are r pending is open_there size s) =
     let sizes : length bytes ≡ length bytes_before + length part = ap length are ∙ length-append bytes_before part in
-    ap (λ x. end_of (page_read syntax limits x)) are
+    ap (λ x. page_ended (page_read syntax limits x)) are
     ∙ (page_ends pending_goes syntax limits bytes_before items line phase run r pending (omega arith) (λ k. (let t = s k in omega arith)) part is (omega arith) (λ k. (let t = s k in omega arith)) open_there
     ∙ ap (λ n. Err (record { kind = kind.Unended; token = token_of bytes_before run; at = n })) (sym sizes))

@@ -1,5 +1,5 @@
 -- The tokens at the front of a page lead to its open elements.
-use Rattle.rx_pages.proofs.Words.{◌≡◌, ℕ, suc, ◌+◌, false, List, [], ◌∷◌, refl, subst, arith, append-nil, length, Syntax, Tree, end, element, text, has_element, Item, start_of, Line, before, within, after, Open, a_root, a_child, not_begun, still_open, Event, Nesting, Goes, stands, IsAt, FrontsLead}
+use Rattle.rx_pages.proofs.Words.{◌≡◌, ℕ, suc, ◌+◌, false, List, [], ◌∷◌, refl, subst, arith, append-nil, length, Syntax, Tree, end, element, text, has_element, Item, start_tag_of, Line, before, within, after, Open, a_root, a_child, not_begun, still_open, Event, Nesting, Goes, stands, IsAt, FrontsLead}
 use Rattle.rx_grammar.proofs.Common.{ended}
 use Rattle.rx_pages.specs.Nesting as nesting
 use Rattle.rx_pages.proofs.Steps.{in_line}
@@ -19,7 +19,7 @@ none_among (text chars nodes) = none_among nodes
 module _ (syntax : Syntax) (depth : ℕ) (meant : Nesting → Type 0) (careless : Careless meant) where
   pub open_leads : {left : ℕ} {all to : List Item} {line : Line} → Open syntax left all to line → length line + left ≡ depth → (later : List Event) → Goes syntax depth meant (in_line line) to later → Going syntax depth meant all
   open_leads (a_root {left = left} {from = from} {inner = inner} {inside = inside} {stood = stood} lead item t l o named isnt drop hs) d later g =
-      let i = runs syntax depth meant careless hs (start_of item t) [] refl refl d (none_among inside) later g in
+      let i = runs syntax depth meant careless hs (start_tag_of item t) [] refl refl d (none_among inside) later g in
       record {
         events = _;
         going = lead_reads syntax depth meant l (item ∷ from) _ (open_goes syntax depth meant careless [] (before stood) item t from inner i.events o refl (not_deeper depth 0 left (room left d)) (root_ready syntax depth meant careless stood t.name named) isnt drop i.going);
@@ -28,7 +28,7 @@ module _ (syntax : Syntax) (depth : ℕ) (meant : Nesting → Type 0) (careless 
       room : (left : ℕ) → 1 + left ≡ depth → 0 + suc left ≡ depth
       room left d = omega arith
   open_leads (a_child {left = left} {from = from} {inner = inner} {inside = inside} {line = line} item t op o isnt among drop hs no_row) d later g =
-      let i = runs syntax depth meant careless hs (start_of item t) line refl refl d no_row later g in
+      let i = runs syntax depth meant careless hs (start_tag_of item t) line refl refl d no_row later g in
       open_leads op (one_less left (length line) d) _ (open_goes syntax depth meant careless line within item t from inner i.events o among (not_deeper depth (length line) left (one_less left (length line) d)) (ready_within syntax depth meant careless t.name) isnt drop i.going)
     where
       one_less : (left n : ℕ) → suc n + left ≡ depth → n + suc left ≡ depth

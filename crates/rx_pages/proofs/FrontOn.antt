@@ -1,5 +1,5 @@
 -- One more character behind the front of a page: the front goes on with it, or it decides a fault.
-use Rattle.rx_pages.proofs.Words.{◌≡◌, ◌≢◌, ◌∙◌, ◌⊎◌, inl, inr, ℕ, ◌+◌, Bool, true, false, List, [], ◌∷◌, ◌++◌, refl, sym, ap, subst, eqb-true, append_assoc, append-nil, Option, Some, None, Result, Ok, Err, arith, ◌&&◌, ◌||◌, ◌==◌, not, if◌then◌else◌, all_scalars, encodes, and_parts, and_from, ampersand, less_than_sign, greater_than_sign, Chars, by_test, and-false, Syntax, Entry, entered, placed, without_mark, Token, tag, character, kept, Spells, has_references, is_text, values, next_of, Item, Spelled, Fits, AllFit, is_literal, is_strict_literal, no_section_end, has_no_nul, Line, inside_of, Phase, Stands, token_of, IsPending, IsShort, Reached, Faulty, ends_in_brackets, Content, Kind, Limits, list_all-append, Nesting, Step, text_step, step_by, nest_step, GoesOn, Verdict, goes_on, whole, ended, refused, verdict, at_first, at_last, at_next, by_token, by_section_end, item_of}
+use Rattle.rx_pages.proofs.Words.{◌≡◌, ◌≢◌, ◌∙◌, ◌⊎◌, inl, inr, ℕ, ◌+◌, Bool, true, false, List, [], ◌∷◌, ◌++◌, refl, sym, ap, subst, eqb-true, append_assoc, append-nil, Option, Some, None, Result, Ok, Err, arith, ◌&&◌, ◌||◌, ◌==◌, not, if◌then◌else◌, all_scalars, encodes, and_parts, and_from, ampersand, less_than_sign, greater_than_sign, Chars, by_test, and-false, Syntax, PlacedCharacter, preprocessed, placed, without_mark, Token, tag, character, kept, Spells, has_references, is_text, values, next_of, Item, Spelled, Fits, AllFit, is_literal, is_strict_literal, no_section_end, has_no_nul, Line, inside_of, Phase, Stands, token_of, IsPending, IsShort, Reached, Faulty, ends_in_brackets, Content, Kind, Limits, list_all-append, Nesting, Step, text_step, step_by, nest_step, CharactersGoOn, Verdict, goes_on, whole, ended, refused, verdict, first_verdict, at_last, at_next, by_token, by_section_end, item_of_run}
 use Rattle.rx_grammar.specs.declared.contents.Content.TheVariants as content
 use Rattle.rx_grammar.specs.declared.faults.Kind.TheVariants as kind
 use Rattle.rx_grammar.specs.Spelling as spelling
@@ -14,16 +14,16 @@ use Rattle.rx_pages.proofs.FaultsRead.{no_literal, item_content, token_snoc}
 use Rattle.rx_pages.proofs.Below.{values_append, any_next, spelled_before, flags_behind, IsKept, is_kept, token_of_item, item_first, item_last, one_unknown}
 
 -- what may go on
-pub goes_more : (s : Syntax) (i : Content) (before a : Chars) (c : ℕ) → GoesOn s i before a → verdict s i (before ++ a) c ≡ goes_on → GoesOn s i before (a ++ c ∷ [])
+pub goes_more : (s : Syntax) (i : Content) (before a : Chars) (c : ℕ) → CharactersGoOn s i before a → verdict s i (before ++ a) c ≡ goes_on → CharactersGoOn s i before (a ++ c ∷ [])
 goes_more s i before [] c g h = (subst (λ x. verdict s i x c ≡ goes_on) (append-nil before) h, tt)
 goes_more s i before (d ∷ a) c g h = (g.0, goes_more s i (before ++ d ∷ []) a c g.1 (subst (λ x. verdict s i x c ≡ goes_on) (sym (append_assoc before (d ∷ []) a)) h))
 
-pub pending : (s : Syntax) (line : Line) (run : Chars) → GoesOn s (inside_of s line).content [] run → IsPending s (inside_of s line).content run
+pub pending : (s : Syntax) (line : Line) (run : Chars) → CharactersGoOn s (inside_of s line).content [] run → IsPending s (inside_of s line).content run
 pending s line [] g = inl refl
 pending s line (c ∷ run) g = inr ((unfinished_goes_on s line c run).1 g)
 
-pub no_nul_more : (a b : List Entry) → has_no_nul a ≡ true → has_no_nul b ≡ true → has_no_nul (a ++ b) ≡ true
-no_nul_more a b h k = list_all-append (λ (e : Entry). not (e.value == 0)) a b ∙ and_from (has_no_nul a) (has_no_nul b) h k
+pub no_nul_more : (a b : List PlacedCharacter) → has_no_nul a ≡ true → has_no_nul b ≡ true → has_no_nul (a ++ b) ≡ true
+no_nul_more a b h k = list_all-append (λ (e : PlacedCharacter). not (e.value == 0)) a b ∙ and_from (has_no_nul a) (has_no_nul b) h k
 
 -- two brackets stand before
 brackets_of : (a b : Item) (items : List Item) (two last : Bool) → (flags_behind (a ∷ b ∷ items) two last).0 ≡ true → ends_in_brackets (a ∷ b ∷ items) ≡ true
@@ -50,7 +50,7 @@ one_character s i _ next _ (spelling.a_character c h) d e = let k : c ≡ d = cc
 one_character s i _ next _ _ d e = absurd (cc)
 
 -- the first character ends nothing
-never_ended : (i : Content) (c : ℕ) (token : Token) → at_first i c ≢ ended token
+never_ended : (i : Content) (c : ℕ) (token : Token) → first_verdict i c ≢ ended token
 never_ended i c token h = by (c == less_than_sign || (c == ampersand && has_references i)) (is_text i c) h
   where
     by : (a b : Bool) → (if a then goes_on else if b then whole (character c) else refused kind.Outside) ≡ ended token → ⊥
@@ -59,33 +59,33 @@ never_ended i c token h = by (c == less_than_sign || (c == ampersand && has_refe
 
 module _ (syntax : Syntax) (limits : Limits) where
   -- The characters are whole tokens at the front of a page and a run that may go on, where `next` comes next.
-  pub record Here (chars : List ℕ) (next : Option ℕ) (items : List Item) (line : Line) (phase : Phase) (run : List Entry) : Type 0 where
-    pub front : List Entry
-    pub read : front ++ run ≡ entered false (without_mark (placed 0 chars))
+  pub record Here (chars : List ℕ) (next : Option ℕ) (items : List Item) (line : Line) (phase : Phase) (run : List PlacedCharacter) : Type 0 where
+    pub front : List PlacedCharacter
+    pub read : front ++ run ≡ preprocessed false (without_mark (placed 0 chars))
     pub scalars : all_scalars chars ≡ true
     pub no_nul : has_no_nul (front ++ run) ≡ true
     pub spelled : Spelled syntax front (next_of (values run) next) items
     pub fit : AllFit limits.tag items
     pub sections : no_section_end items false false ≡ true
     pub stands : Stands syntax limits.depth items line phase
-    pub goes : GoesOn syntax (inside_of syntax line).content [] (values run)
+    pub goes : CharactersGoOn syntax (inside_of syntax line).content [] (values run)
 
   -- the front goes on with the entry
-  pub record Next (chars : List ℕ) (e : Entry) : Type 0 where
+  pub record Next (chars : List ℕ) (e : PlacedCharacter) : Type 0 where
     pub items : List Item
     pub line : Line
     pub phase : Phase
-    pub run : List Entry
+    pub run : List PlacedCharacter
     pub here : Here chars None items line phase run
     pub short : IsShort syntax limits line run (token_of (encodes chars) run) (e.last + 1)
 
   -- the entry decides a fault
-  pub record Decided (chars : List ℕ) (e : Entry) : Type 0 where
+  pub record Decided (chars : List ℕ) (e : PlacedCharacter) : Type 0 where
     pub found : Kind
     pub items : List Item
     pub line : Line
     pub phase : Phase
-    pub run : List Entry
+    pub run : List PlacedCharacter
     pub reached : Reached syntax limits (encodes chars) items line phase (run ++ e ∷ [])
     pub pending : IsPending syntax (inside_of syntax line).content (values run)
     pub faulty : Faulty syntax limits.depth items line phase (inside_of syntax line).content found (values (run ++ e ∷ []))
@@ -93,24 +93,24 @@ module _ (syntax : Syntax) (limits : Limits) where
 
   -- whatever comes next
   module _ (c : ℕ) where
-    pub before_next : {chars : List ℕ} {items : List Item} {line : Line} {phase : Phase} {run : List Entry} → Here chars None items line phase run → Here chars (Some c) items line phase run
+    pub before_next : {chars : List ℕ} {items : List Item} {line : Line} {phase : Phase} {run : List PlacedCharacter} → Here chars None items line phase run → Here chars (Some c) items line phase run
     before_next {items = items} {run = run} h =
         record { front = h.front; read = h.read; scalars = h.scalars; no_nul = h.no_nul; spelled = by run h.spelled; fit = h.fit; sections = h.sections; stands = h.stands; goes = h.goes }
       where
-        by : (run : List Entry) → Spelled syntax h.front (next_of (values run) None) items → Spelled syntax h.front (next_of (values run) (Some c)) items
+        by : (run : List PlacedCharacter) → Spelled syntax h.front (next_of (values run) None) items → Spelled syntax h.front (next_of (values run) (Some c)) items
         by [] sp = spelled_before syntax None (Some c) (λ i text token t. any_next syntax i text token t (Some c)) sp
         by (e ∷ run) sp = sp
 
   -- a page's characters, and one more that is entered
-  module _ (chars more : List ℕ) (e : Entry) (scalars : all_scalars more ≡ true) (grown : entered false (without_mark (placed 0 more)) ≡ entered false (without_mark (placed 0 chars)) ++ e ∷ []) (some : not (e.value == 0) ≡ true) where
+  module _ (chars more : List ℕ) (e : PlacedCharacter) (scalars : all_scalars more ≡ true) (grown : preprocessed false (without_mark (placed 0 more)) ≡ preprocessed false (without_mark (placed 0 chars)) ++ e ∷ []) (some : not (e.value == 0) ≡ true) where
     abbrev pub Answer : Type 0
     Answer = Next more e ⊎ Decided more e
 
-    module _ (items : List Item) (line : Line) (phase : Phase) (run : List Entry) (h : Here chars (Some e.value) items line phase run) where
+    module _ (items : List Item) (line : Line) (phase : Phase) (run : List PlacedCharacter) (h : Here chars (Some e.value) items line phase run) where
       abbrev inside : Content
       inside = (inside_of syntax line).content
 
-      read_more : h.front ++ (run ++ e ∷ []) ≡ entered false (without_mark (placed 0 more))
+      read_more : h.front ++ (run ++ e ∷ []) ≡ preprocessed false (without_mark (placed 0 more))
       read_more = sym (append_assoc h.front run (e ∷ [])) ∙ (ap (λ es. es ++ e ∷ []) h.read ∙ sym grown)
 
       none_more : has_no_nul (h.front ++ (run ++ e ∷ [])) ≡ true
@@ -154,14 +154,14 @@ module _ (syntax : Syntax) (limits : Limits) where
                 fit = h.fit;
                 sections = h.sections;
                 stands = h.stands;
-                goes = subst (λ x. GoesOn syntax inside [] x) (sym (values_append run (e ∷ []))) (goes_more syntax inside [] (values run) e.value h.goes v);
+                goes = subst (λ x. CharactersGoOn syntax inside [] x) (sym (values_append run (e ∷ []))) (goes_more syntax inside [] (values run) e.value h.goes v);
               };
               short = short;
             })
 
         module _ (token : Token) (v : verdict syntax inside (values run) e.value ≡ whole token) where
           abbrev item : Item
-          item = item_of inside token (run ++ e ∷ [])
+          item = item_of_run inside token (run ++ e ∷ [])
 
           sp : (next : Option ℕ) → Spells syntax inside (values (run ++ e ∷ [])) next token
           sp next = subst (λ x. Spells syntax inside x next token) (sym (values_append run (e ∷ []))) (spells_read syntax inside (inside_occurs syntax line) (values run ++ e.value ∷ []) next token (at_last (values run) e.value token h.goes v))
@@ -169,9 +169,9 @@ module _ (syntax : Syntax) (limits : Limits) where
           spelled_more : Spelled syntax (h.front ++ (run ++ e ∷ [])) None (items ++ item ∷ [])
           spelled_more = by run h.spelled (sp None)
             where
-              by : (run : List Entry) → Spelled syntax h.front (next_of (values run) (Some e.value)) items → Spells syntax inside (values (run ++ e ∷ [])) None token → Spelled syntax (h.front ++ (run ++ e ∷ [])) None (items ++ item_of inside token (run ++ e ∷ []) ∷ [])
-              by [] a s = spelled_snoc syntax e [] None (item_of inside token (e ∷ [])) a refl s refl refl
-              by (d ∷ r) a s = spelled_snoc syntax d (r ++ e ∷ []) None (item_of inside token (d ∷ (r ++ e ∷ []))) a refl s refl refl
+              by : (run : List PlacedCharacter) → Spelled syntax h.front (next_of (values run) (Some e.value)) items → Spells syntax inside (values (run ++ e ∷ [])) None token → Spelled syntax (h.front ++ (run ++ e ∷ [])) None (items ++ item_of_run inside token (run ++ e ∷ []) ∷ [])
+              by [] a s = spelled_snoc syntax e [] None (item_of_run inside token (e ∷ [])) a refl s refl refl
+              by (d ∷ r) a s = spelled_snoc syntax d (r ++ e ∷ []) None (item_of_run inside token (d ∷ (r ++ e ∷ []))) a refl s refl refl
 
           fits : (t : Token) → token ≡ t → Fits limits.tag item t
           fits (tag t) k =
@@ -229,9 +229,9 @@ module _ (syntax : Syntax) (limits : Limits) where
         at_entry (ended token) v n = absurd (n token refl)
 
     -- text that ended before the entry
-    module _ (items : List Item) (line : Line) (phase : Phase) (d : Entry) (run : List Entry) (h : Here chars (Some e.value) items line phase (d ∷ run)) (token : Token) (v : verdict syntax (inside_of syntax line).content (values (d ∷ run)) e.value ≡ ended token) where
+    module _ (items : List Item) (line : Line) (phase : Phase) (d : PlacedCharacter) (run : List PlacedCharacter) (h : Here chars (Some e.value) items line phase (d ∷ run)) (token : Token) (v : verdict syntax (inside_of syntax line).content (values (d ∷ run)) e.value ≡ ended token) where
       abbrev text_item : Item
-      text_item = item_of (inside_of syntax line).content token (d ∷ run)
+      text_item = item_of_run (inside_of syntax line).content token (d ∷ run)
 
       text_spells : Spells syntax (inside_of syntax line).content (values (d ∷ run)) (Some e.value) token
       text_spells = spells_read syntax (inside_of syntax line).content (inside_occurs syntax line) (values (d ∷ run)) (Some e.value) token (at_next (values (d ∷ run)) e.value token h.goes v)
@@ -270,8 +270,8 @@ module _ (syntax : Syntax) (limits : Limits) where
 
     -- the entry, whatever it says
     module _ (items : List Item) (line : Line) (phase : Phase) where
-      pub on_entry : (run : List Entry) (h : Here chars (Some e.value) items line phase run) → IsShort syntax limits line (run ++ e ∷ []) (token_of (encodes more) (run ++ e ∷ [])) (e.last + 1) → Answer
-      on_entry [] h short = at_entry items line phase [] h short (at_first (inside_of syntax line).content e.value) refl (never_ended (inside_of syntax line).content e.value)
+      pub on_entry : (run : List PlacedCharacter) (h : Here chars (Some e.value) items line phase run) → IsShort syntax limits line (run ++ e ∷ []) (token_of (encodes more) (run ++ e ∷ [])) (e.last + 1) → Answer
+      on_entry [] h short = at_entry items line phase [] h short (first_verdict (inside_of syntax line).content e.value) refl (never_ended (inside_of syntax line).content e.value)
       on_entry (d ∷ run) h short = by (verdict syntax (inside_of syntax line).content (values (d ∷ run)) e.value) refl
         where
           by : (v : Verdict) → verdict syntax (inside_of syntax line).content (values (d ∷ run)) e.value ≡ v → Answer
@@ -279,4 +279,4 @@ module _ (syntax : Syntax) (limits : Limits) where
           by (whole token) v = at_entry items line phase (d ∷ run) h short (whole token) v (λ token. λ q. cc)
           by (refused found) v = at_entry items line phase (d ∷ run) h short (refused found) v (λ token. λ q. cc)
           by (ended token) v =
-              at_entry (items ++ text_item items line phase d run h token v ∷ []) line phase [] (behind_text items line phase d run h token v) (λ k. absurd (one_unknown syntax (inside_of syntax line).content e.value k)) (at_first (inside_of syntax line).content e.value) refl (never_ended (inside_of syntax line).content e.value)
+              at_entry (items ++ text_item items line phase d run h token v ∷ []) line phase [] (behind_text items line phase d run h token v) (λ k. absurd (one_unknown syntax (inside_of syntax line).content e.value k)) (first_verdict (inside_of syntax line).content e.value) refl (never_ended (inside_of syntax line).content e.value)

@@ -1,31 +1,31 @@
 -- The reader of bytes reads each front of a page.
-use Rattle.rx_pages.proofs.Words.{◌≡◌, ◌∙◌, ℕ, ◌+◌, ◌<◌, ◌≤◌, Bool, true, false, List, [], ◌∷◌, ◌++◌, refl, sym, ap, subst, length, append-nil, None, Ok, arith, ◌==◌, not, encodes, and_parts, and_from, nat_tests, by_test, Syntax, Entry, IsRead, byte_order_mark, line_feed, as_line_end, placed, entered, without_mark, values, next_of, Item, Spelled, AllFit, no_section_end, has_no_nul, is_known_tag, Limits, Event, Nesting, content_at, Goes, GoesOn, first_of, page_on, nothing_read}
+use Rattle.rx_pages.proofs.Words.{◌≡◌, ◌∙◌, ℕ, ◌+◌, ◌<◌, ◌≤◌, Bool, true, false, List, [], ◌∷◌, ◌++◌, refl, sym, ap, subst, length, append-nil, None, Ok, arith, ◌==◌, not, encodes, and_parts, and_from, nat_tests, by_test, Syntax, PlacedCharacter, IsRead, byte_order_mark, line_feed, as_line_end, placed, preprocessed, without_mark, values, next_of, Item, Spelled, AllFit, no_section_end, has_no_nul, is_known_tag, Limits, Event, Nesting, content_at, Goes, CharactersGoOn, first_of, page_on, no_progress}
 use Rattle.rx_pages.specs.Nesting.{not_begun}
 use Rattle.rx_pages.proofs.Below.{known_front, progress_at, Fine, first_same, no_nuls, page_walk, passes, ends_return, is_started, page_entered, Within, page_within, stood, Bound, go_all, fine_append, RisesFrom, Rises, flags_behind, Finish, tokens_walk}
 
 -- entries end below a bound
-abbrev pub AllBelow : ℕ → List Entry → Type 0
+abbrev pub AllBelow : ℕ → List PlacedCharacter → Type 0
 AllBelow hi [] = Unit {0}
 AllBelow hi (e ∷ es) = (e.last < hi) × AllBelow hi es
 
-pub below_behind : (hi : ℕ) (a b : List Entry) → AllBelow hi (a ++ b) → AllBelow hi b
+pub below_behind : (hi : ℕ) (a b : List PlacedCharacter) → AllBelow hi (a ++ b) → AllBelow hi b
 below_behind hi [] b h = h
 below_behind hi (e ∷ a) b h = below_behind hi a b h.1
 
-below_of : (lo hi : ℕ) (es : List Entry) → Within lo hi es → AllBelow hi es
+below_of : (lo hi : ℕ) (es : List PlacedCharacter) → Within lo hi es → AllBelow hi es
 below_of lo hi [] w = tt
 below_of lo hi (e ∷ es) w = (w.0.to, below_of (e.last + 1) hi es w.1)
 
 -- places rise, each from where the one before ended
-rises_from : (lo hi last : ℕ) (es : List Entry) → last ≤ lo → Within lo hi es → RisesFrom last es
+rises_from : (lo hi last : ℕ) (es : List PlacedCharacter) → last ≤ lo → Within lo hi es → RisesFrom last es
 rises_from lo hi last [] l w = tt
 rises_from lo hi last (e ∷ es) l w = ((let f = w.0.from in let o = w.0.order in omega arith), rises_from (e.last + 1) hi e.last es (omega arith) w.1)
 
-rises_of : (lo hi : ℕ) (es : List Entry) → Within lo hi es → Rises es
+rises_of : (lo hi : ℕ) (es : List PlacedCharacter) → Within lo hi es → Rises es
 rises_of lo hi [] w = tt
 rises_of lo hi (e ∷ es) w = rises_from (e.last + 1) hi e.last es (omega arith) w.1
 
-pub page_below : (cs : List ℕ) → AllBelow (length (encodes cs)) (entered false (without_mark (placed 0 cs)))
+pub page_below : (cs : List ℕ) → AllBelow (length (encodes cs)) (preprocessed false (without_mark (placed 0 cs)))
 page_below cs = below_of 0 _ _ (page_within cs)
 
 -- no character is U+0000 where no entry is
@@ -41,7 +41,7 @@ mark_some c h = grind (arith, nat_tests)
 pub some_of : (c : ℕ) → not (as_line_end c == 0) ≡ true → not (c == 0) ≡ true
 some_of c h = by_test (c == 0) (λ e. absurd (let q : false ≡ true = sym (ap not (nul_entry c e)) ∙ h in cc)) (λ e. rw e refl)
 
-pub page_no_nul : (cs : List ℕ) → has_no_nul (entered false (without_mark (placed 0 cs))) ≡ true → no_nuls cs ≡ true
+pub page_no_nul : (cs : List ℕ) → has_no_nul (preprocessed false (without_mark (placed 0 cs))) ≡ true → no_nuls cs ≡ true
 page_no_nul =
     page_entered (λ after_return start cs es. has_no_nul es ≡ true → no_nuls cs ≡ true) (λ after_return start h. refl)
     (λ after_return start c cs es t some h. and_from (not (c == 0)) (no_nuls cs) (ap not (line_feed_some c (and_parts after_return (c == line_feed) t).1)) (some h))
@@ -49,17 +49,17 @@ page_no_nul =
     (λ c cs es t some h. and_from (not (c == 0)) (no_nuls cs) (ap not (mark_some c t)) (some h)) (λ cs es u some. some)
 
 -- what the reader has read of a front and of the run behind it
-pub record FrontIsRead (syntax : Syntax) (limits : Limits) (whole : List ℕ) (meant : Nesting → Type 0) (items : List Item) (events : List Event) (run : List Entry) (chars : List ℕ) : Type 0 where
+pub record FrontIsRead (syntax : Syntax) (limits : Limits) (whole : List ℕ) (meant : Nesting → Type 0) (items : List Item) (events : List Event) (run : List PlacedCharacter) (chars : List ℕ) : Type 0 where
   pub place : Nesting
   pub is_meant : meant place
   pub started : Bool
   pub after_return : Bool
   pub passes_as : (c : ℕ) → passes started after_return c ≡ passes (is_started chars) (ends_return false chars) c
-  pub is_read : (rest : List ℕ) → page_on syntax limits (Ok nothing_read) (whole ++ rest) ≡ page_on syntax limits (Ok (progress_at (length whole) [] started after_return (stood place events (flags_behind items false false).0 (flags_behind items false false).1 run))) rest
+  pub is_read : (rest : List ℕ) → page_on syntax limits (Ok no_progress) (whole ++ rest) ≡ page_on syntax limits (Ok (progress_at (length whole) [] started after_return (stood place events (flags_behind items false false).0 (flags_behind items false false).1 run))) rest
 
-pub front_is_read : (syntax : Syntax) (limits : Limits) (whole : List ℕ) (meant : Nesting → Type 0) (front run : List Entry) (items : List Item) (events : List Event) (read : IsRead whole (front ++ run)) → has_no_nul (front ++ run) ≡ true
+pub front_is_read : (syntax : Syntax) (limits : Limits) (whole : List ℕ) (meant : Nesting → Type 0) (front run : List PlacedCharacter) (items : List Item) (events : List Event) (read : IsRead whole (front ++ run)) → has_no_nul (front ++ run) ≡ true
     → Spelled syntax front (next_of (values run) None) items → AllFit limits.tag items → no_section_end items false false ≡ true → Goes syntax limits.depth meant not_begun items events
-    → length whole ≤ limits.page → ((m : Nesting) → meant m → GoesOn syntax (content_at syntax m) [] (values run)) → ((m : Nesting) → meant m → is_known_tag syntax (content_at syntax m) (values run) ≡ true → length whole ≤ first_of run 0 + limits.tag)
+    → length whole ≤ limits.page → ((m : Nesting) → meant m → CharactersGoOn syntax (content_at syntax m) [] (values run)) → ((m : Nesting) → meant m → is_known_tag syntax (content_at syntax m) (values run) ≡ true → length whole ≤ first_of run 0 + limits.tag)
     → FrontIsRead syntax limits whole meant items events run read.characters
 front_is_read syntax limits whole meant front run items events read nul spelled fit sections going size goes short =
     let chars = read.characters in
@@ -86,7 +86,7 @@ front_is_read syntax limits whole meant front run items events read nul spelled 
       after_return = ends_return false chars;
       passes_as = λ c. refl;
       is_read = λ rest.
-          ap (λ b. page_on syntax limits (Ok nothing_read) (b ++ rest)) (sym read.forms)
+          ap (λ b. page_on syntax limits (Ok no_progress) (b ++ rest)) (sym read.forms)
           ∙ (page_walk syntax limits chars rest (stood not_begun [] false false []) (stood w.place events (flags_behind items false false).0 (flags_behind items false false).1 run) read.scalars (page_no_nul chars (subst (λ es. has_no_nul es ≡ true) read.read nul)) (subst (λ x. x ≤ limits.page) (sym same) size)
           (subst (λ es. Fine syntax limits hi (stood not_begun [] false false []) es (stood w.place events (flags_behind items false false).0 (flags_behind items false false).1 run)) read.read w.fine)
           ∙ ap (λ x. page_on syntax limits (Ok (progress_at x [] (is_started chars) (ends_return false chars) (stood w.place events (flags_behind items false false).0 (flags_behind items false false).1 run))) rest) same);

@@ -1,6 +1,6 @@
 -- How the front of a page grows: what is open is extended, ended and closed.
-use Rattle.rx_reader.proofs.Common.{◌≡◌, ◌≢◌, ◌∙◌, ℕ, suc, Bool, true, false, List, [], ◌∷◌, ◌++◌, refl, ap, sym, subst, append_assoc, inl, inr, ◌⊎◌, ◌||◌, ◌&&◌, Chars, both, not_both_ways, Syntax, is_among, Place, outside, hides, StartTag, Tree, end, element, after_text, has_element, Item, is_line_feed, start_of, enders, is_ended_by, Line, inside_of, parent_of, enders_of, Open, a_root, a_child, Content}
-use Rattle.rx_grammar.specs.Pages.{Opens, Closes, Drops, shown, Holds, nothing, a_text, alone, closed, unclosed, Lead, Document, a_line_feed, another, no_more, a_comment}
+use Rattle.rx_reader.proofs.Common.{◌≡◌, ◌≢◌, ◌∙◌, ℕ, suc, Bool, true, false, List, [], ◌∷◌, ◌++◌, refl, ap, sym, subst, append_assoc, inl, inr, ◌⊎◌, ◌||◌, ◌&&◌, Chars, both, not_both_ways, Syntax, is_among, Place, outside, hides, StartTag, Tree, end, element, after_text, has_element, Item, is_line_feed, start_tag_of, enders, is_ended_by, Line, inside_of, parent_of, enders_of, Open, a_root, a_child, Content}
+use Rattle.rx_grammar.specs.Pages.{IsStartTag, IsEndTag, Drops, shown, Holds, nothing, a_text, alone, closed, unclosed, Lead, Document, a_line_feed, another, no_more, a_comment}
 use Rattle.rx_grammar.specs.Pages as pages
 use Rattle.rx_pages.proofs.Below.{has_after_text, no_end_outside, none_among}
 
@@ -50,13 +50,13 @@ module _ (syntax : Syntax) where
   follow (a_comment item c k hs) h = let j = follow hs h in record { nodes = j.nodes; holds = a_comment item c k j.holds; has = j.has }
   follow (alone item t o is hs) h =
       let j = follow hs h in
-      record { nodes = element (start_of item t) end j.nodes; holds = alone item t o is j.holds; has = λ names. ap (λ b. is_among names t.name || b) (j.has names) ∙ or_groups (is_among names t.name) _ _ }
+      record { nodes = element (start_tag_of item t) end j.nodes; holds = alone item t o is j.holds; has = λ names. ap (λ b. is_among names t.name || b) (j.has names) ∙ or_groups (is_among names t.name) _ _ }
   follow (closed {place = place} {inside = inside} item close t o isnt drop hin no_row c hs) h =
       let j = follow hs h in
-      record { nodes = element (start_of item t) (shown (hides place t) inside) j.nodes; holds = closed item close t o isnt drop hin no_row c j.holds; has = λ names. ap (λ b. is_among names t.name || b) (j.has names) ∙ or_groups (is_among names t.name) _ _ }
+      record { nodes = element (start_tag_of item t) (shown (hides place t) inside) j.nodes; holds = closed item close t o isnt drop hin no_row c j.holds; has = λ names. ap (λ b. is_among names t.name || b) (j.has names) ∙ or_groups (is_among names t.name) _ _ }
   follow (unclosed {place = place} {inside = inside} item t o isnt drop hin no_row omits hs) h =
       let j = follow hs h in
-      record { nodes = element (start_of item t) (shown (hides place t) inside) j.nodes; holds = unclosed item t o isnt drop hin no_row omits j.holds; has = λ names. ap (λ b. is_among names t.name || b) (j.has names) ∙ or_groups (is_among names t.name) _ _ }
+      record { nodes = element (start_tag_of item t) (shown (hides place t) inside) j.nodes; holds = unclosed item t o isnt drop hin no_row omits j.holds; has = λ names. ap (λ b. is_among names t.name || b) (j.has names) ∙ or_groups (is_among names t.name) _ _ }
 
   -- more nodes in the innermost element
   pub extend : {left : ℕ} {all to more : List Item} {line : Line} {nodes : Tree} → Open syntax left all to line → Holds syntax left (inside_of syntax line) (parent_of line) to more nodes → has_element (enders_of syntax line) nodes ≡ false → Open syntax left all more line
@@ -67,7 +67,7 @@ module _ (syntax : Syntax) where
   -- the same elements are open before more tokens
   pub open_suffix : {left : ℕ} {all to : List Item} {line : Line} (ys : List Item) → Open syntax left all to line → to ≢ [] → Open syntax left (all ++ ys) (to ++ ys) line
   open_suffix {left = left} {to = to} ys (a_root {from = from} lead item t l o named isnt drop hs) n =
-      subst (λ xs. Open syntax left xs (to ++ ys) (start_of item t ∷ [])) (sym (append_assoc lead (item ∷ from) ys)) (a_root lead item t l o named isnt (drop_suffix ys drop (λ e. n (not_empty hs e))) (suffix ys hs))
+      subst (λ xs. Open syntax left xs (to ++ ys) (start_tag_of item t ∷ [])) (sym (append_assoc lead (item ∷ from) ys)) (a_root lead item t l o named isnt (drop_suffix ys drop (λ e. n (not_empty hs e))) (suffix ys hs))
   open_suffix ys (a_child item t op o isnt among drop hs no_row) n = a_child item t (open_suffix ys op (λ e. cc)) o isnt among (drop_suffix ys drop (λ e. n (not_empty hs e))) (suffix ys hs) no_row
 
   -- an element is ended by the next token
@@ -91,8 +91,8 @@ module _ (syntax : Syntax) where
 
   pub grow : {left : ℕ} {all to : List Item} {line : Line} → Open syntax left all to line → (item : Item) → item.content ≡ (inside_of syntax line).content → Grown left all to line item
   grow {left = left} {to = to} (a_root {from = from} lead first t l o named isnt drop hs) item e = elim (drop_grows drop item e) [
-    | inl k ↦ inl (subst (λ xs. Open syntax left xs (to ++ item ∷ []) (start_of first t ∷ [])) (sym (append_assoc lead (first ∷ from) (item ∷ []))) (a_root lead first t l o named isnt k (suffix (item ∷ []) hs)))
-    | inr k ↦ inr (k.0, subst (λ xs. Open syntax left xs to (start_of first t ∷ [])) (sym (append_assoc lead (first ∷ from) (item ∷ []))) (a_root lead first t l o named isnt k.1 hs))
+    | inl k ↦ inl (subst (λ xs. Open syntax left xs (to ++ item ∷ []) (start_tag_of first t ∷ [])) (sym (append_assoc lead (first ∷ from) (item ∷ []))) (a_root lead first t l o named isnt k (suffix (item ∷ []) hs)))
+    | inr k ↦ inr (k.0, subst (λ xs. Open syntax left xs to (start_tag_of first t ∷ [])) (sym (append_assoc lead (first ∷ from) (item ∷ []))) (a_root lead first t l o named isnt k.1 hs))
   ]
   grow (a_child first t op o isnt among drop hs no_row) item e = elim (drop_grows drop item e) [
     | inl k ↦ inl (a_child first t (open_suffix (item ∷ []) op (λ e. cc)) o isnt among k (suffix (item ∷ []) hs) no_row)
@@ -104,14 +104,14 @@ module _ (syntax : Syntax) where
   no_open (a_child item t op o isnt among drop hs no_row) e = cc
 
   -- an end tag closes the innermost element
-  pub closes_child : {left : ℕ} {all to : List Item} {s : StartTag} {line : Line} (item : Item) → Open syntax left all (item ∷ to) (s ∷ line) → Closes (inside_of syntax (s ∷ line)).content s.name item → line ≢ [] → Open syntax (suc left) all to line
+  pub closes_child : {left : ℕ} {all to : List Item} {s : StartTag} {line : Line} (item : Item) → Open syntax left all (item ∷ to) (s ∷ line) → IsEndTag (inside_of syntax (s ∷ line)).content s.name item → line ≢ [] → Open syntax (suc left) all to line
   closes_child item (a_root lead first t l o named isnt drop hs) c n = absurd (n refl)
   closes_child item (a_child first t op o isnt among drop hs no_row) c n = extend op (closed first item t o isnt drop hs no_row c nothing) (rw among refl)
 
-  pub closes_root : {left : ℕ} {all : List Item} {s : StartTag} {line : Line} (depth : ℕ) (item : Item) → Open syntax left all (item ∷ []) (s ∷ line) → Closes (inside_of syntax (s ∷ line)).content s.name item → line ≡ [] → suc left ≡ depth → (tree : Tree) × Document syntax depth all tree
+  pub closes_root : {left : ℕ} {all : List Item} {s : StartTag} {line : Line} (depth : ℕ) (item : Item) → Open syntax left all (item ∷ []) (s ∷ line) → IsEndTag (inside_of syntax (s ∷ line)).content s.name item → line ≡ [] → suc left ≡ depth → (tree : Tree) × Document syntax depth all tree
   closes_root depth item (a_child first t op o isnt among drop hs no_row) c n d = absurd (no_open op n)
   closes_root {left = left} depth item (a_root {from = from} {inside = inside} {stood = stood} lead first t l o named isnt drop hs) c n d = (
-    element (start_of first t) (shown (hides outside t) inside) end,
+    element (start_tag_of first t) (shown (hides outside t) inside) end,
     record {
       before = lead;
       root = first;
@@ -125,7 +125,7 @@ module _ (syntax : Syntax) where
       opens = o;
       named = named;
       tree_is = refl;
-      holds = subst (λ x. Holds syntax x outside [] (first ∷ from) [] (element (start_of first t) (shown (hides outside t) inside) end)) d (closed first item t o isnt drop hs (none_among inside) c nothing);
+      holds = subst (λ x. Holds syntax x outside [] (first ∷ from) [] (element (start_tag_of first t) (shown (hides outside t) inside) end)) d (closed first item t o isnt drop hs (none_among inside) c nothing);
       trail = pages.no_more;
     },
   )

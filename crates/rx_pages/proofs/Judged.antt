@@ -1,5 +1,5 @@
 -- Unfinished characters go on, and faults are decided as the tables say, both ways.
-use Rattle.rx_pages.proofs.Words.{◌≡◌, ◌≢◌, ◌∙◌, ℕ, Bool, true, false, List, [], ◌∷◌, ◌++◌, Option, Some, None, refl, ap, sym, subst, inl, inr, ◌⊎◌, ◌&&◌, codes, Err, Chars, split, Syntax, Html, Xhtml, same, is_among, name_of_raw, Token, tag, doctype, in_html, inside_html, html_in_svg, Place, raw_place, raw_names, rcdata_names, inside_at, place_in, has_markup, raw_name, Spells, keeps_runs, a_doctype, begins, begins_tag, Item, Line, inside_of, Phase, before, Content, RawName, Kind, reads_on, Unfinished, tag_rows, first_row, Faulty, token_begun, tag_begun, run_begun, opening_begun, no_markup, in_comment, section_end, no_doctype, late_doctype, outside_text, outside_less_than, outside_section, at_tag, Nesting, Step, unless_refused, tag_passes, doctype_step, step_by, nest_step, IsAt, GoesOn, ReadAs, at_last, at_next, Decides, by_character, by_token, by_section_end, UnfinishedGoesOn, SpellsEachToken, FaultsAreDecided, append-nil}
+use Rattle.rx_pages.proofs.Words.{◌≡◌, ◌≢◌, ◌∙◌, ℕ, Bool, true, false, List, [], ◌∷◌, ◌++◌, Option, Some, None, refl, ap, sym, subst, inl, inr, ◌⊎◌, ◌&&◌, codes, Err, Chars, split, Syntax, Html, Xhtml, same, is_among, name_of_raw, Token, tag, doctype, in_html, inside_html, html_in_svg, Place, raw_place, raw_names, rcdata_names, inside_at, place_inside, has_markup, raw_name, Spells, keeps_runs, a_doctype, begins, begins_tag, Item, Line, inside_of, Phase, before, Content, RawName, Kind, reads_on, Unfinished, tag_rows, first_row, Faulty, token_begun, tag_begun, run_begun, opening_begun, no_markup, in_comment, section_end, no_doctype, late_doctype, outside_text, outside_less_than, outside_section, at_tag, Nesting, Step, unless_refused, tag_passes, doctype_step, step_by, nest_step, IsAt, CharactersGoOn, ReadAs, at_last, at_next, Decides, by_character, by_token, by_section_end, UnfinishedGoesOn, SpellsEachToken, FaultsAreDecided, append-nil}
 use Rattle.rx_grammar.specs.PageFaults.{in_tag, in_run}
 use Rattle.rx_grammar.specs.declared.contents.Content.TheVariants as content
 use Rattle.rx_grammar.specs.declared.faults.Kind.TheVariants as kind
@@ -33,7 +33,7 @@ inside_fits : (c : Content) (in_svg : Bool) (name : Chars) → Fits name (inside
 inside_fits content.Foreign in_svg name = split (Fits name) (in_svg && is_among html_in_svg name) _ _ (λ e. (refl, inl refl)) (λ e. (refl, inl refl))
 inside_fits _ in_svg name = html_fits name
 
-pub endable : (s : Syntax) (place : Place) (name : Chars) → IsEndable name (place_in s place name)
+pub endable : (s : Syntax) (place : Place) (name : Chars) → IsEndable name (place_inside s place name)
 endable Html place name = (inside_fits place.content place.in_svg name).1
 endable Xhtml place name = inl refl
 
@@ -43,11 +43,11 @@ inside_occurs Html (t ∷ above) = (inside_fits (inside_of Html above).content (
 inside_occurs _ _ = refl
 
 -- what is unfinished goes on
-pub goes : (s : Syntax) (i : Content) (run : Chars) → Unfinished s i run → GoesOn s i [] run
+pub goes : (s : Syntax) (i : Content) (run : Chars) → Unfinished s i run → CharactersGoOn s i [] run
 goes s i _ (token_begun c d run rest {next = next} token sp) = begun_goes s i (c ∷ run) d rest next token sp
 goes s i _ (tag_begun text h b) = front_goes s i text (known s i text h) text [] (sym (append-nil text)) (reads_on s text b)
 goes s i _ (run_begun run r b) = run_goes s i run r b
-goes s i _ (opening_begun text z m b) = subst (λ x. GoesOn x i [] (60 ∷ text)) (sym z) (opening_goes i m text b)
+goes s i _ (opening_begun text z m b) = subst (λ x. CharactersGoOn x i [] (60 ∷ text)) (sym z) (opening_goes i m text b)
 
 pub unfinished_goes_on : UnfinishedGoesOn
 unfinished_goes_on s line c run =

@@ -1,5 +1,5 @@
 -- Characters that are known to be a tag are read as one.
-use Rattle.rx_pages.proofs.Words.{◌≡◌, ◌∙◌, ℕ, true, List, [], ◌∷◌, ◌++◌, refl, sym, ap, subst, append_assoc, Entry, values, inl, inr, Result, Ok, Err, ◌==◌, and_parts, less_than_sign, Chars, by_test, Syntax, tag, is_known_tag, is_known_after, Content, Kind, is_last, TagState, tag_of, of_one, Verdict, goes_on, whole, refused, whole_if, told_of_tag, verdict}
+use Rattle.rx_pages.proofs.Words.{◌≡◌, ◌∙◌, ℕ, true, List, [], ◌∷◌, ◌++◌, refl, sym, ap, subst, append_assoc, PlacedCharacter, values, inl, inr, Result, Ok, Err, ◌==◌, and_parts, less_than_sign, Chars, by_test, Syntax, tag, is_known_tag, is_known_after, Content, Kind, is_last, TagState, tag_of, of_one, Verdict, goes_on, whole, refused, whole_if, told_of_tag, verdict}
 use Rattle.rx_pages.proofs.TagRuns.{begins_more, known_end, is_known_by, end_more, Known, in_markup', in_raw', known, is_known, verdict_at}
 use Rattle.rx_pages.proofs.Markup.{is_first}
 use Rattle.rx_pages.proofs.Tokens.{values_append}
@@ -25,10 +25,10 @@ known_more s i (d ∷ text) more h =
     stays (in_markup' m b) = in_markup' m (begins_more (is_first s) text more b)
     stays (in_raw' name r k) = in_raw' name r (is_known_by name (text ++ more) (end_more name text more (known_end name text k)))
 
-pub known_snoc : (s : Syntax) (i : Content) (run : List Entry) (e : Entry) → is_known_tag s i (values run) ≡ true → is_known_tag s i (values (run ++ e ∷ [])) ≡ true
+pub known_snoc : (s : Syntax) (i : Content) (run : List PlacedCharacter) (e : PlacedCharacter) → is_known_tag s i (values run) ≡ true → is_known_tag s i (values (run ++ e ∷ [])) ≡ true
 known_snoc s i run e h = subst (λ x. is_known_tag s i x ≡ true) (sym (values_append run (e ∷ []))) (known_more s i (values run) (e.value ∷ []) h)
 
-pub known_front : (s : Syntax) (i : Content) (run a : List Entry) (e : Entry) (b : List Entry) → run ≡ a ++ e ∷ b → is_known_tag s i (values (a ++ e ∷ [])) ≡ true → is_known_tag s i (values run) ≡ true
+pub known_front : (s : Syntax) (i : Content) (run a : List PlacedCharacter) (e : PlacedCharacter) (b : List PlacedCharacter) → run ≡ a ++ e ∷ b → is_known_tag s i (values (a ++ e ∷ [])) ≡ true → is_known_tag s i (values run) ≡ true
 known_front s i run a e b h k = subst (λ x. is_known_tag s i x ≡ true) (sym (values_append (a ++ e ∷ []) b) ∙ ap values (append_assoc a (e ∷ []) b ∙ sym h)) (known_more s i (values (a ++ e ∷ [])) (values b) k)
 
 -- one character is known to be nothing

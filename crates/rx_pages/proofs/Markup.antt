@@ -1,6 +1,6 @@
 -- Tags are read as they are spelled.
-use Rattle.rx_pages.proofs.Words.{◌≡◌, ◌≢◌, ◌∙◌, inl, inr, Bool, ℕ, true, false, [], ◌∷◌, ◌++◌, Option, refl, ap, sym, append_assoc, ◌&&◌, ◌||◌, ◌==◌, not, Result, Ok, Err, cond-true, cond-false, solidus, Chars, either, not_both_ways, by_test, Syntax, Html, Xhtml, meaning, Tag, tag, begins_tag, begins, SpellsTag, has_markup, begins_markup, Content, Kind, BadTag, is_last, TagState, fresh, tag_on, checked, of_one, reads_each, on_err, stuck, tag_on-append, tag_first, goes_on, whole, told_of_tag, in_tag, in_markup, is_mark, ReadAs}
-use Rattle.rx_reader.proofs.Common.{is_html}
+use Rattle.rx_pages.proofs.Words.{◌≡◌, ◌≢◌, ◌∙◌, inl, inr, Bool, ℕ, true, false, [], ◌∷◌, ◌++◌, Option, refl, ap, sym, append_assoc, ◌&&◌, ◌||◌, ◌==◌, not, Result, Ok, Err, cond-true, cond-false, solidus, Chars, either, not_both_ways, by_test, Syntax, Html, Xhtml, meaning, Tag, tag, begins_tag, begins, SpellsTag, has_markup, begins_markup, Content, Kind, BadTag, is_last, TagState, fresh, tag_on, checked, of_one, reads_each, on_err, stuck, tag_on-append, tag_first, goes_on, whole, told_of_tag, in_tag, in_markup, is_markup_sign, ReadAs}
+use Rattle.rx_reader.proofs.Common.{is_html_syntax}
 use Rattle.rx_pages.proofs.Reading.{reads_through, markup_is}
 
 -- before its end a tag goes on
@@ -27,10 +27,10 @@ at_question : (s : Syntax) → is_first s 63 ≡ false
 at_question Html = refl
 at_question Xhtml = refl
 
-no_mark : (s : Syntax) (c : ℕ) → is_first s c ≡ true → is_mark c ≡ false
+no_mark : (s : Syntax) (c : ℕ) → is_first s c ≡ true → is_markup_sign c ≡ false
 no_mark s c h = rw (not_first s c 33 h (at_bang s), not_first s c 63 h (at_question s)) refl
 
-no_text : (s : Syntax) (c : ℕ) → is_first s c ≡ true → (is_html s && not (begins_markup c)) ≡ false
+no_text : (s : Syntax) (c : ℕ) → is_first s c ≡ true → (is_html_syntax s && not (begins_markup c)) ≡ false
 no_text Html c h = elim (either (c == solidus) (begins_tag Html c) h) [ inl e ↦ of_one (λ x. not (begins_markup x) ≡ false) c solidus e refl | inr e ↦ rw e refl ]
 no_text Xhtml c h = refl
 

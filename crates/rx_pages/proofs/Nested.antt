@@ -1,5 +1,5 @@
 -- What the nodes of a page are, the steps of their tokens tell.
-use Rattle.rx_pages.proofs.Words.{cond-true, cond-false, or_parts, nat_tests, bytes_decides, ◌≡◌, ◌∙◌, ℕ, suc, ◌+◌, Bool, true, false, List, [], ◌∷◌, ◌++◌, Some, refl, ap, sym, subst, arith, ◌&&◌, not, nat_le, Result, Ok, length, Chars, both, by_test, common_steps, Syntax, same, is_among, Tag, Token, tag, character, reference, kept, section, comment, StartTag, Tree, end, element, after_text, has_element, Item, start_of, text_of, enders, is_omissible, is_held, is_ended_by, Line, inside_of, parent_of, enders_of, Phase, within, under_start, after_end, is_innermost, has_ended, is_before, first_row, Content, Kind, Place, outside, place_in, is_alone, is_html, is_plaintext, is_self_closed, hides, drops_line_feed, Opens, Closes, Drops, shown, Holds, nothing, a_text, alone, unclosed, root_name, a_line_feed, another, a_comment, Event, says, finishes, Nesting, Step, ended_under, ended_by_end, over, begun_under, line_above, step_by, nest_step, Goes, stands, goes, with_element, with_text, told_trees}
+use Rattle.rx_pages.proofs.Words.{cond-true, cond-false, or_parts, nat_tests, bytes_decides, ◌≡◌, ◌∙◌, ℕ, suc, ◌+◌, Bool, true, false, List, [], ◌∷◌, ◌++◌, Some, refl, ap, sym, subst, arith, ◌&&◌, not, nat_le, Result, Ok, length, Chars, both, by_test, common_steps, Syntax, same, is_among, Tag, Token, tag, character, reference, kept, section, comment, StartTag, Tree, end, element, after_text, has_element, Item, start_tag_of, text_of, enders, is_omissible, is_held, is_ended_by, Line, inside_of, parent_of, enders_of, Phase, within, under_start, after_end, is_innermost, has_ended, is_before_root, first_row, Content, Kind, Place, outside, place_inside, is_alone, is_html, is_plaintext, is_self_closed, hides, drops_line_feed, IsStartTag, IsEndTag, Drops, shown, Holds, nothing, a_text, alone, unclosed, root_name, a_line_feed, another, a_comment, Event, says, finishes, Nesting, Step, ended_under, ended_by_end, over, begun_under, line_above, step_by, nest_step, Goes, stands, goes, with_element, with_text, told_trees}
 use Rattle.rx_grammar.specs.Pages.{closed, no_more}
 use Rattle.rx_grammar.specs.declared.faults.Kind.TheVariants as kind
 use Rattle.rx_pages.specs.Nesting.{begins, told}
@@ -27,7 +27,7 @@ none_told syntax (t ∷ above) name h =
 -- before a phase's first or a further element
 pub record Ready (phase : Phase) (name : Chars) : Type 0 where
   pub not_ended : has_ended phase ≡ false
-  pub named : (is_before phase && not (same name root_name)) ≡ false
+  pub named : (is_before_root phase && not (same name root_name)) ≡ false
 
 -- the step of a start tag that may stand here
 pub opening : (syntax : Syntax) (depth : ℕ) (line : Line) (phase : Phase) (item : Item) (t : Tag) → t.closing ≡ false → is_self_closed syntax (inside_of syntax line) t ≡ false → is_plaintext syntax (inside_of syntax line) t ≡ false
@@ -85,23 +85,23 @@ module _ (syntax : Syntax) (depth : ℕ) (meant : Nesting → Type 0) (careless 
   after_drop {d = false} line no_more p (stands n m) = stands (inside_at line false) m
 
   -- an element that is its start tag alone
-  pub alone_goes : (line : Line) (phase : Phase) (item : Item) (t : Tag) (from : List Item) (later : List Event) → Opens syntax (inside_of syntax line) item t → is_among (enders_of syntax line) t.name ≡ false → nat_le depth (length line) ≡ false → Ready phase t.name
+  pub alone_goes : (line : Line) (phase : Phase) (item : Item) (t : Tag) (from : List Item) (later : List Event) → IsStartTag syntax (inside_of syntax line) item t → is_among (enders_of syntax line) t.name ≡ false → nat_le depth (length line) ≡ false → Ready phase t.name
       → is_alone syntax (inside_of syntax line) t ≡ true → Goes syntax depth meant (over line) from later
-      → Goes syntax depth meant (record { line = line; phase = phase; drops = false }) (item ∷ from) (begins (start_of item t) (hides (inside_of syntax line) t) ∷ finishes ∷ later)
+      → Goes syntax depth meant (record { line = line; phase = phase; drops = false }) (item ∷ from) (begins (start_tag_of item t) (hides (inside_of syntax line) t) ∷ finishes ∷ later)
   alone_goes line phase item t from later o among room ready is g =
       let e = of_token syntax depth (record { line = line; phase = phase; drops = false }) item (tag t) _ o.token (opening syntax depth line phase item t o.start o.allowed o.known among room ready ∙ ap Ok (cond-true _ _ _ is)) in
-      goes item (record { next = over line; events = begins (start_of item t) (hides (inside_of syntax line) t) ∷ finishes ∷ [] }) o.content e g
+      goes item (record { next = over line; events = begins (start_tag_of item t) (hides (inside_of syntax line) t) ∷ finishes ∷ [] }) o.content e g
 
   -- a start tag before what is inside
-  pub open_goes : (line : Line) (phase : Phase) (item : Item) (t : Tag) (from inner : List Item) (later : List Event) → Opens syntax (inside_of syntax line) item t → is_among (enders_of syntax line) t.name ≡ false → nat_le depth (length line) ≡ false → Ready phase t.name
-      → is_alone syntax (inside_of syntax line) t ≡ false → Drops (drops_line_feed (inside_of syntax line) t) (place_in syntax (inside_of syntax line) t.name).content from inner → Goes syntax depth meant (in_line (start_of item t ∷ line)) inner later
-      → Goes syntax depth meant (record { line = line; phase = phase; drops = false }) (item ∷ from) (begins (start_of item t) (hides (inside_of syntax line) t) ∷ later)
+  pub open_goes : (line : Line) (phase : Phase) (item : Item) (t : Tag) (from inner : List Item) (later : List Event) → IsStartTag syntax (inside_of syntax line) item t → is_among (enders_of syntax line) t.name ≡ false → nat_le depth (length line) ≡ false → Ready phase t.name
+      → is_alone syntax (inside_of syntax line) t ≡ false → Drops (drops_line_feed (inside_of syntax line) t) (place_inside syntax (inside_of syntax line) t.name).content from inner → Goes syntax depth meant (in_line (start_tag_of item t ∷ line)) inner later
+      → Goes syntax depth meant (record { line = line; phase = phase; drops = false }) (item ∷ from) (begins (start_tag_of item t) (hides (inside_of syntax line) t) ∷ later)
   open_goes line phase item t from inner later o among room ready isnt drop g =
       let e = of_token syntax depth (record { line = line; phase = phase; drops = false }) item (tag t) _ o.token (opening syntax depth line phase item t o.start o.allowed o.known among room ready ∙ ap Ok (cond-false _ _ _ isnt)) in
-      goes item (record { next = inside_at (start_of item t ∷ line) (drops_line_feed (inside_of syntax line) t); events = begins (start_of item t) (hides (inside_of syntax line) t) ∷ [] }) o.content e (after_drop (start_of item t ∷ line) drop refl g)
+      goes item (record { next = inside_at (start_tag_of item t ∷ line) (drops_line_feed (inside_of syntax line) t); events = begins (start_tag_of item t) (hides (inside_of syntax line) t) ∷ [] }) o.content e (after_drop (start_tag_of item t ∷ line) drop refl g)
 
   -- an end tag, and what follows
-  pub close_goes : (line : Line) (s : StartTag) (item : Item) (rest : List Item) (later : List Event) → Closes (inside_of syntax (s ∷ line)).content s.name item → Goes syntax depth meant (over line) rest later
+  pub close_goes : (line : Line) (s : StartTag) (item : Item) (rest : List Item) (later : List Event) → IsEndTag (inside_of syntax (s ∷ line)).content s.name item → Goes syntax depth meant (over line) rest later
       → Goes syntax depth meant (in_line (s ∷ line)) (item ∷ rest) (finishes ∷ later)
   close_goes line s item rest later c g =
       goes item (record { next = over line; events = finishes ∷ [] }) c.content (of_token syntax depth (in_line (s ∷ line)) item (tag c.t) _ c.token (closing syntax depth line s item c.t c.end (sym c.same))) g
@@ -126,16 +126,16 @@ module _ (syntax : Syntax) (depth : ℕ) (meant : Nesting → Type 0) (careless 
   one_level left n e = omega arith
 
   -- a whole element that isn't its start tag alone, and the nodes behind it
-  pub whole : (line : Line) (phase : Phase) (left : ℕ) (item : Item) (t : Tag) (from inner : List Item) (inside nodes : Tree) (later behind : List Event) → Reads syntax depth meant (in_line (start_of item t ∷ line)) inner (finishes ∷ behind) inside
-      → Opens syntax (inside_of syntax line) item t → is_among (enders_of syntax line) t.name ≡ false → length line + suc left ≡ depth → Ready phase t.name → is_alone syntax (inside_of syntax line) t ≡ false
-      → Drops (drops_line_feed (inside_of syntax line) t) (place_in syntax (inside_of syntax line) t.name).content from inner → {hidden : Bool} → hidden ≡ hides (inside_of syntax line) t → ((more : List Tree) → told_trees later ≡ end ∷ more → told_trees behind ≡ nodes ∷ more)
-      → Reads syntax depth meant (record { line = line; phase = phase; drops = false }) (item ∷ from) later (element (start_of item t) (shown hidden inside) nodes)
+  pub whole : (line : Line) (phase : Phase) (left : ℕ) (item : Item) (t : Tag) (from inner : List Item) (inside nodes : Tree) (later behind : List Event) → Reads syntax depth meant (in_line (start_tag_of item t ∷ line)) inner (finishes ∷ behind) inside
+      → IsStartTag syntax (inside_of syntax line) item t → is_among (enders_of syntax line) t.name ≡ false → length line + suc left ≡ depth → Ready phase t.name → is_alone syntax (inside_of syntax line) t ≡ false
+      → Drops (drops_line_feed (inside_of syntax line) t) (place_inside syntax (inside_of syntax line) t.name).content from inner → {hidden : Bool} → hidden ≡ hides (inside_of syntax line) t → ((more : List Tree) → told_trees later ≡ end ∷ more → told_trees behind ≡ nodes ∷ more)
+      → Reads syntax depth meant (record { line = line; phase = phase; drops = false }) (item ∷ from) later (element (start_tag_of item t) (shown hidden inside) nodes)
   whole line phase left item t from inner inside nodes later behind i o among d ready isnt drop hid tells =
       record {
-        events = begins (start_of item t) (hides (inside_of syntax line) t) ∷ i.events;
+        events = begins (start_tag_of item t) (hides (inside_of syntax line) t) ∷ i.events;
         going = open_goes line phase item t from inner i.events o among (not_deeper depth (length line) left d) ready isnt drop i.going;
-        tells = λ more e. ap (with_element (start_of item t) (hides (inside_of syntax line) t)) (i.tells (nodes ∷ more) (ap (λ ts. end ∷ ts) (tells more e)))
-            ∙ ap (λ x. element (start_of item t) (shown x inside) nodes ∷ more) (sym hid);
+        tells = λ more e. ap (with_element (start_tag_of item t) (hides (inside_of syntax line) t)) (i.tells (nodes ∷ more) (ap (λ ts. end ∷ ts) (tells more e)))
+            ∙ ap (λ x. element (start_tag_of item t) (shown x inside) nodes ∷ more) (sym hid);
       }
 
   -- From where nodes begin to where they end, in an open element, the tokens tell them.
@@ -161,23 +161,23 @@ module _ (syntax : Syntax) (depth : ℕ) (meant : Nesting → Type 0) (careless 
       let r = runs hs s above p q d k.1 later g in
       let line = s ∷ above in
       record {
-        events = begins (start_of item t) (hides (inside_of syntax line) t) ∷ finishes ∷ r.events;
-        going = alone_goes line within item t from r.events (subst (λ x. Opens syntax x item t) p o) k.0 (not_deeper depth (length line) left d) (ready_within t.name) (sym (ap (λ x. is_alone syntax x t) p) ∙ is) r.going;
-        tells = λ more e. ap (λ ts. with_element (start_of item t) (hides (inside_of syntax line) t) (end ∷ ts)) (r.tells more e) ∙ ap (λ x. element (start_of item t) x nodes ∷ more) (nothing_shown (hides (inside_of syntax line) t));
+        events = begins (start_tag_of item t) (hides (inside_of syntax line) t) ∷ finishes ∷ r.events;
+        going = alone_goes line within item t from r.events (subst (λ x. IsStartTag syntax x item t) p o) k.0 (not_deeper depth (length line) left d) (ready_within t.name) (sym (ap (λ x. is_alone syntax x t) p) ∙ is) r.going;
+        tells = λ more e. ap (λ ts. with_element (start_tag_of item t) (hides (inside_of syntax line) t) (end ∷ ts)) (r.tells more e) ∙ ap (λ x. element (start_tag_of item t) x nodes ∷ more) (nothing_shown (hides (inside_of syntax line) t));
       }
   runs (closed {left = left} {from = from} {inner = inner} {after = rest} {inside = inside} {nodes = nodes} item close t o isnt drop hin no_row c hs) s above p q d no_child later g =
       let k = or_parts (is_among (enders_of syntax (s ∷ above)) t.name) _ no_child in
       let r = runs hs s above p q d k.1 later g in
       let line = s ∷ above in
-      let g2 = close_goes line (start_of item t) close rest r.events (subst (λ x. Closes (place_in syntax x t.name).content t.name close) p c) r.going in
-      let i = runs hin (start_of item t) line (ap (λ x. place_in syntax x t.name) p) refl (one_level left (length line) d) (sym (ap (λ x. has_element (enders x t.name) inside) p) ∙ no_row) (finishes ∷ r.events) g2 in
-      whole line within left item t from inner inside nodes later r.events i (subst (λ x. Opens syntax x item t) p o) k.0 d (ready_within t.name) (sym (ap (λ x. is_alone syntax x t) p) ∙ isnt)
-      (subst (λ x. Drops (drops_line_feed x t) (place_in syntax x t.name).content from inner) p drop) (ap (λ x. hides x t) p) r.tells
+      let g2 = close_goes line (start_tag_of item t) close rest r.events (subst (λ x. IsEndTag (place_inside syntax x t.name).content t.name close) p c) r.going in
+      let i = runs hin (start_tag_of item t) line (ap (λ x. place_inside syntax x t.name) p) refl (one_level left (length line) d) (sym (ap (λ x. has_element (enders x t.name) inside) p) ∙ no_row) (finishes ∷ r.events) g2 in
+      whole line within left item t from inner inside nodes later r.events i (subst (λ x. IsStartTag syntax x item t) p o) k.0 d (ready_within t.name) (sym (ap (λ x. is_alone syntax x t) p) ∙ isnt)
+      (subst (λ x. Drops (drops_line_feed x t) (place_inside syntax x t.name).content from inner) p drop) (ap (λ x. hides x t) p) r.tells
   runs (unclosed {left = left} {parent = parent} {from = from} {inner = inner} {after = rest} {inside = inside} {nodes = nodes} item t o isnt drop hin no_row omits hs) s above p q d no_child later g =
       let k = or_parts (is_among (enders_of syntax (s ∷ above)) t.name) _ no_child in
       let r = runs hs s above p q d k.1 later g in
       let line = s ∷ above in
-      let g2 = omitted_goes line (start_of item t) rest r.events (sym (ap (λ x. is_ended_by x parent t.name rest) p ∙ ap (λ x. is_ended_by (inside_of syntax line) x t.name rest) q) ∙ omits) r.going in
-      let i = runs hin (start_of item t) line (ap (λ x. place_in syntax x t.name) p) refl (one_level left (length line) d) (sym (ap (λ x. has_element (enders x t.name) inside) p) ∙ no_row) (finishes ∷ r.events) g2 in
-      whole line within left item t from inner inside nodes later r.events i (subst (λ x. Opens syntax x item t) p o) k.0 d (ready_within t.name) (sym (ap (λ x. is_alone syntax x t) p) ∙ isnt)
-      (subst (λ x. Drops (drops_line_feed x t) (place_in syntax x t.name).content from inner) p drop) (ap (λ x. hides x t) p) r.tells
+      let g2 = omitted_goes line (start_tag_of item t) rest r.events (sym (ap (λ x. is_ended_by x parent t.name rest) p ∙ ap (λ x. is_ended_by (inside_of syntax line) x t.name rest) q) ∙ omits) r.going in
+      let i = runs hin (start_tag_of item t) line (ap (λ x. place_inside syntax x t.name) p) refl (one_level left (length line) d) (sym (ap (λ x. has_element (enders x t.name) inside) p) ∙ no_row) (finishes ∷ r.events) g2 in
+      whole line within left item t from inner inside nodes later r.events i (subst (λ x. IsStartTag syntax x item t) p o) k.0 d (ready_within t.name) (sym (ap (λ x. is_alone syntax x t) p) ∙ isnt)
+      (subst (λ x. Drops (drops_line_feed x t) (place_inside syntax x t.name).content from inner) p drop) (ap (λ x. hides x t) p) r.tells

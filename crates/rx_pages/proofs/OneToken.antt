@@ -1,5 +1,5 @@
 -- At most one front of some characters is read as a token, and as one token: the reader is a function, which stops at one character.
-use Rattle.rx_pages.proofs.Words.{◌≡◌, ◌≢◌, ◌∙◌, ℕ, [], ◌∷◌, ◌++◌, Option, None, refl, ap, sym, subst, append-nil, append_assoc, Chars, Syntax, Token, Content, next_of, OneToken, IsSameToken, Verdict, goes_on, whole, ended, verdict, GoesOn, ReadAs, at_last, at_next}
+use Rattle.rx_pages.proofs.Words.{◌≡◌, ◌≢◌, ◌∙◌, ℕ, [], ◌∷◌, ◌++◌, Option, None, refl, ap, sym, subst, append-nil, append_assoc, Chars, Syntax, Token, Content, next_of, OneToken, IsSameToken, Verdict, goes_on, whole, ended, verdict, CharactersGoOn, ReadAs, at_last, at_next}
 use Rattle.rx_pages.proofs.Spellings.{reads_each}
 
 -- The characters through `front` go on, and the next one tells this.
@@ -8,7 +8,7 @@ record Stops (s : Syntax) (i : Content) (text : Chars) (told : Verdict) : Type 0
   last : ℕ
   rest : Chars
   are : text ≡ front ++ last ∷ rest
-  goes : GoesOn s i [] front
+  goes : CharactersGoOn s i [] front
   tells : verdict s i front last ≡ told
 
 -- where the reading stops
@@ -17,7 +17,7 @@ record SameStop (front other : Chars) (c d : ℕ) : Type 0 where
   last_is : c ≡ d
 
 module _ (s : Syntax) (i : Content) where
-  stops_once : (before f g : Chars) (c d : ℕ) (m n : Chars) → f ++ c ∷ m ≡ g ++ d ∷ n → GoesOn s i before f → GoesOn s i before g → verdict s i (before ++ f) c ≢ goes_on → verdict s i (before ++ g) d ≢ goes_on → SameStop f g c d
+  stops_once : (before f g : Chars) (c d : ℕ) (m n : Chars) → f ++ c ∷ m ≡ g ++ d ∷ n → CharactersGoOn s i before f → CharactersGoOn s i before g → verdict s i (before ++ f) c ≢ goes_on → verdict s i (before ++ g) d ≢ goes_on → SameStop f g c d
   stops_once before [] [] c d m n e p q u v = record { front_is = refl; last_is = cc }
   stops_once before [] (x ∷ g) c d m n e p q u v =
       let same : x ≡ c = cc in absurd (u (subst (λ z. verdict s i z c ≡ goes_on) (sym (append-nil before)) (subst (λ z. verdict s i before z ≡ goes_on) same q.0)))
@@ -26,7 +26,7 @@ module _ (s : Syntax) (i : Content) where
   stops_once before (x ∷ f) (y ∷ g) c d m n e p q u v =
       let same : x ≡ y = cc in
       let grown : (h : Chars) (b : ℕ) → verdict s i (before ++ x ∷ h) b ≢ goes_on → verdict s i ((before ++ x ∷ []) ++ h) b ≢ goes_on = λ h b w k. w (subst (λ z. verdict s i z b ≡ goes_on) (append_assoc before (x ∷ []) h) k) in
-      let r = stops_once (before ++ x ∷ []) f g c d m n (cc) p.1 (subst (λ z. GoesOn s i (before ++ z ∷ []) g) (sym same) q.1) (grown f c u) (grown g d (subst (λ z. verdict s i (before ++ z ∷ g) d ≢ goes_on) (sym same) v)) in
+      let r = stops_once (before ++ x ∷ []) f g c d m n (cc) p.1 (subst (λ z. CharactersGoOn s i (before ++ z ∷ []) g) (sym same) q.1) (grown f c u) (grown g d (subst (λ z. verdict s i (before ++ z ∷ g) d ≢ goes_on) (sym same) v)) in
       record { front_is = ap (λ z. z ∷ f) same ∙ ap (λ z. y ∷ z) r.front_is; last_is = r.last_is }
 
   -- they stop at one character, which tells one thing

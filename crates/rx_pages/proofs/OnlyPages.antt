@@ -1,17 +1,17 @@
 -- The reader of bytes reads pages alone to their ends, and finds faults of the grammar alone.
-use Rattle.rx_pages.proofs.Words.{◌≡◌, ◌∙◌, ⊎_elim, ℕ, ◌+◌, List, ◌++◌, sym, ap, subst, length, Ok, Err, take, Syntax, FaultAt, Fault, Limits, told_trees, take-append_seam, Progress, page_read, end_of, IsPageRead, ReadsOnlyPages, FindsOnlyFaults, FaultsStay}
+use Rattle.rx_pages.proofs.Words.{◌≡◌, ◌∙◌, ⊎_elim, ℕ, ◌+◌, List, ◌++◌, sym, ap, subst, length, Ok, Err, take, Syntax, FaultAt, Fault, Limits, told_trees, take-append_seam, Progress, page_read, page_ended, IsPageRead, ReadsOnlyPages, FindsOnlyFaults, FaultsStay}
 use Rattle.rx_pages.proofs.PageRead.{page_is_read}
 use Rattle.rx_pages.proofs.FaultsRead.{fault_is_read}
 use Rattle.rx_pages.proofs.OneOf.{ok_is, error_is, neither, not_both, one_fault}
 use Rattle.rx_pages.proofs.BytesOn.{Reads, through, up_to, reads, page_ends, each_bytes}
 
 module _ (syntax : Syntax) (limits : Limits) (bytes : List ℕ) where
-  pub read_page : (final : Progress) → end_of (page_read syntax limits bytes) ≡ Ok final → IsPageRead syntax limits bytes final
+  pub read_page : (final : Progress) → page_ended (page_read syntax limits bytes) ≡ Ok final → IsPageRead syntax limits bytes final
   read_page final h =
       ⊎_elim (λ p. let r = page_is_read syntax limits bytes p.0 p.1 in record { tree = p.0; page = p.1; trees = ap (λ (x : Progress). told_trees x.told) (ok_is final r.final _ h r.is_read) ∙ r.trees })
       (λ f. absurd (neither final f.0 _ h (fault_is_read syntax limits bytes f.0 f.1))) (each_bytes syntax limits bytes)
 
-  pub found_fault : (fault : Fault) → end_of (page_read syntax limits bytes) ≡ Err fault → FaultAt syntax limits bytes fault
+  pub found_fault : (fault : Fault) → page_ended (page_read syntax limits bytes) ≡ Err fault → FaultAt syntax limits bytes fault
   found_fault fault h =
       ⊎_elim (λ p. let r = page_is_read syntax limits bytes p.0 p.1 in absurd (neither r.final fault _ r.is_read h))
       (λ f. subst (λ x. FaultAt syntax limits bytes x) (error_is f.0 fault _ (fault_is_read syntax limits bytes f.0 f.1) h) f.1) (each_bytes syntax limits bytes)

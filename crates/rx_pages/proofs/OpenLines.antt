@@ -1,30 +1,30 @@
 -- What holds wherever tokens lead: a page that is over has nothing open, and the open elements have the names of start tags.
-use Rattle.rx_pages.proofs.Words.{◌≡◌, ◌∙◌, ◌⊎◌, ⊎_elim, inl, inr, ℕ, Bool, true, false, List, [], ◌∷◌, ◌++◌, Option, refl, ap, sym, subst, ◌&&◌, ◌==◌, not, Result, Ok, list_all, all_scalars, scalar, and_from, cond-true, cond-false, Chars, both, by_test, split, Entry, carriage_return, as_line_end, placed, entered, without_mark, Syntax, same, is_among, Tag, Token, tag, character, reference, kept, section, comment, doctype, is_alone, is_html, Spells, enders, is_omissible, is_held, Item, Spelled, no_more, one, values, next_of, is_line_feed, has_no_nul, Line, inside_of, parent_of, Phase, before, within, after, under_start, after_start, after_end, first_row, tag_rows, Kind, Event, Nesting, Step, over, begun_under, line_above, tag_passes, going_on, text_step, doctype_step, step_by, Goes, stands, goes}
+use Rattle.rx_pages.proofs.Words.{◌≡◌, ◌∙◌, ◌⊎◌, ⊎_elim, inl, inr, ℕ, Bool, true, false, List, [], ◌∷◌, ◌++◌, Option, refl, ap, sym, subst, ◌&&◌, ◌==◌, not, Result, Ok, list_all, all_scalars, scalar, and_from, cond-true, cond-false, Chars, both, by_test, split, PlacedCharacter, carriage_return, as_line_end, placed, preprocessed, without_mark, Syntax, same, is_among, Tag, Token, tag, character, reference, kept, section, comment, doctype, is_alone, is_html, Spells, enders, is_omissible, is_held, Item, Spelled, no_more, one, values, next_of, is_line_feed, has_no_nul, Line, inside_of, parent_of, Phase, before, within, after, under_start, after_start, after_end, first_row, tag_rows, Kind, Event, Nesting, Step, over, begun_under, line_above, tag_passes, going_on, text_step, doctype_step, step_by, Goes, stands, goes}
 use Rattle.rx_pages.proofs.Steps.{passes}
 use Rattle.rx_pages.proofs.OpenNames.{is_fair, IsName, start_name}
 use Rattle.rx_pages.proofs.Below.{is_tag, IsLast, LastIs, page_entered}
 
 -- the characters of a page are fair
-abbrev pub is_fair_entry : Entry → Bool
+abbrev pub is_fair_entry : PlacedCharacter → Bool
 is_fair_entry e = is_fair e.value
 
 scalar_end : (c : ℕ) → scalar c ≡ true → scalar (as_line_end c) ≡ true
 scalar_end c h = by_test {G = scalar (as_line_end c) ≡ true} (c == carriage_return) (λ t. ap scalar (cond-true _ _ _ t)) (λ t. ap scalar (cond-false _ _ _ t) ∙ h)
 
-pub scalars_page : (cs : List ℕ) → all_scalars cs ≡ true → list_all (λ (e : Entry). scalar e.value) (entered false (without_mark (placed 0 cs))) ≡ true
+pub scalars_page : (cs : List ℕ) → all_scalars cs ≡ true → list_all (λ (e : PlacedCharacter). scalar e.value) (preprocessed false (without_mark (placed 0 cs))) ≡ true
 scalars_page =
-    page_entered (λ after_return start cs es. all_scalars cs ≡ true → list_all (λ (e : Entry). scalar e.value) es ≡ true) (λ after_return start h. refl) (λ after_return start c cs es t all h. all (both (scalar c) (all_scalars cs) h).1)
-    (λ after_return start c cs es t all h. let k = both (scalar c) (all_scalars cs) h in and_from (scalar (as_line_end c)) _ (scalar_end c k.0) (all k.1)) (λ cs es. all_scalars cs ≡ true → list_all (λ (e : Entry). scalar e.value) es ≡ true)
+    page_entered (λ after_return start cs es. all_scalars cs ≡ true → list_all (λ (e : PlacedCharacter). scalar e.value) es ≡ true) (λ after_return start h. refl) (λ after_return start c cs es t all h. all (both (scalar c) (all_scalars cs) h).1)
+    (λ after_return start c cs es t all h. let k = both (scalar c) (all_scalars cs) h in and_from (scalar (as_line_end c)) _ (scalar_end c k.0) (all k.1)) (λ cs es. all_scalars cs ≡ true → list_all (λ (e : PlacedCharacter). scalar e.value) es ≡ true)
     (λ c cs es t all h. all (both (scalar c) (all_scalars cs) h).1) (λ cs es u all. all)
 
-pub both_fair : (es : List Entry) → list_all (λ (e : Entry). scalar e.value) es ≡ true → has_no_nul es ≡ true → list_all is_fair_entry es ≡ true
+pub both_fair : (es : List PlacedCharacter) → list_all (λ (e : PlacedCharacter). scalar e.value) es ≡ true → has_no_nul es ≡ true → list_all is_fair_entry es ≡ true
 both_fair [] h k = refl
 both_fair (e ∷ es) h k =
     let p = both (scalar e.value) _ h in
     let q = both (not (e.value == 0)) _ k in
     and_from (is_fair e.value) _ (and_from (scalar e.value) (not (e.value == 0)) p.0 q.0) (both_fair es p.1 q.1)
 
-fair_parts : (a b : List Entry) → list_all is_fair_entry (a ++ b) ≡ true → (list_all is_fair (values a) ≡ true) × (list_all is_fair_entry b ≡ true)
+fair_parts : (a b : List PlacedCharacter) → list_all is_fair_entry (a ++ b) ≡ true → (list_all is_fair (values a) ≡ true) × (list_all is_fair_entry b ≡ true)
 fair_parts [] b h = (refl, h)
 fair_parts (e ∷ a) b h = let k = both (is_fair e.value) _ h in let p = fair_parts a b k.1 in (and_from (is_fair e.value) _ k.0 p.0, p.1)
 
@@ -100,7 +100,7 @@ module _ (syntax : Syntax) (depth : ℕ) where
   last_is item place (stands m p) now more h = now (ap (λ (x : Nesting). x.phase) p ∙ h)
   last_is item place (goes other step c e g) now more h = more h
 
-  pub arrives : {meant : Nesting → Type 0} {n : Nesting} {entries : List Entry} {next : Option ℕ} {items : List Item} {events : List Event} → Spelled syntax entries next items → Goes syntax depth meant n items events → list_all is_fair_entry entries ≡ true → Sound n → Arrives meant n items events
+  pub arrives : {meant : Nesting → Type 0} {n : Nesting} {entries : List PlacedCharacter} {next : Option ℕ} {items : List Item} {events : List Event} → Spelled syntax entries next items → Goes syntax depth meant n items events → list_all is_fair_entry entries ≡ true → Sound n → Arrives meant n items events
   arrives no_more (stands n m) f s = record { place = n; is_meant = m; going = stands n refl; sound = s; last = λ h. tt }
   arrives {n = n} {next = next} (one c run rest item sp k l more) (goes item2 step ci e g) f s =
       let p = fair_parts (c ∷ run) rest f in

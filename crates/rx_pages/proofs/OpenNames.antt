@@ -1,5 +1,5 @@
 -- The names of open elements: their end tags are spelled with them.
-use Rattle.rx_reader.proofs.Common.{◌≡◌, ◌∙◌, inl, inr, ℕ, ◌+◌, ◌<◌, Bool, true, false, [], ◌∷◌, ◌++◌, Option, refl, ap, sym, subst, arith, ◌&&◌, ◌==◌, not, map, list_all, scalar, low_scalar, and_from, cond-true, cond-false, nat_tests, Chars, lowered, both, by_test, not_both_ways, Syntax, Html, Xhtml, Tag, tag, ends_name, begins_tag, is_tag_char, Shape, a_start, an_end, is_tag_name, is_strict_start, is_strict_char, cased, is_repeated, SpellsTag, Spells, a_tag, an_end_of_raw, place_in, StartTag, Line, inside_of, Content, of_one, unless, kept_case}
+use Rattle.rx_reader.proofs.Common.{◌≡◌, ◌∙◌, inl, inr, ℕ, ◌+◌, ◌<◌, Bool, true, false, [], ◌∷◌, ◌++◌, Option, refl, ap, sym, subst, arith, ◌&&◌, ◌==◌, not, map, list_all, scalar, low_scalar, and_from, cond-true, cond-false, nat_tests, Chars, lowered, both, by_test, not_both_ways, Syntax, Html, Xhtml, Tag, tag, ends_name, begins_tag, is_tag_char, Shape, a_start, an_end, is_tag_name, is_strict_start, is_strict_char, cased, is_repeated, SpellsTag, Spells, a_tag, an_end_of_raw, place_inside, StartTag, Line, inside_of, Content, of_one, unless, kept_case}
 use Rattle.rx_terms.specs.Ascii.{solidus, greater_than_sign, carriage_return, line_feed, lowered_char, is_letter, between}
 use Rattle.rx_pages.proofs.Entered.{all_parts}
 use Rattle.rx_pages.proofs.Judged.{IsEndable, endable}
@@ -95,7 +95,7 @@ spells_ending s name n =
 pub spells_end : (s : Syntax) (t : StartTag) (above : Line) → IsName s t.name → (next : Option ℕ) → Spells s (inside_of s (t ∷ above)).content (60 ∷ ending_text t.name) next (tag (ending t.name))
 spells_end s t above n next = by (endable s (inside_of s above) t.name)
   where
-    by : IsEndable t.name (place_in s (inside_of s above) t.name) → Spells s (inside_of s (t ∷ above)).content (60 ∷ ending_text t.name) next (tag (ending t.name))
+    by : IsEndable t.name (place_inside s (inside_of s above) t.name) → Spells s (inside_of s (t ∷ above)).content (60 ∷ ending_text t.name) next (tag (ending t.name))
     by (inl m) = a_tag (ending_text t.name) (ending t.name) m (spells_ending s t.name n)
     by (inr r) = an_end_of_raw (ending_text t.name) t.name (ending t.name) r (spells_ending s t.name n) refl refl
 

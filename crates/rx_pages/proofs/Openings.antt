@@ -1,5 +1,5 @@
 -- In XHTML `<` and what begins an opening goes on, and what begins none is refused.
-use Rattle.rx_pages.proofs.Words.{◌≡◌, ◌∙◌, ℕ, true, false, List, [], ◌∷◌, ◌++◌, refl, ap, sym, subst, inl, inr, eqb-true, ◌&&◌, ◌||◌, ◌==◌, not, codes, list_any, cond-false, or_from, or_parts, Chars, begins_with, both, either, untrue, not_both_ways, by_test, Xhtml, meaning, begins_tag, begins, has_markup, has_sections, meets_opening, is_opening_begun, openings, Content, BadTag, fresh, moved, checked, of_one, equal, refused, told_of_tag, in_markup, verdict, GoesOn}
+use Rattle.rx_pages.proofs.Words.{◌≡◌, ◌∙◌, ℕ, true, false, List, [], ◌∷◌, ◌++◌, refl, ap, sym, subst, inl, inr, eqb-true, ◌&&◌, ◌||◌, ◌==◌, not, codes, list_any, cond-false, or_from, or_parts, Chars, begins_with, both, either, untrue, not_both_ways, by_test, Xhtml, meaning, begins_tag, begins, has_markup, has_sections, meets_opening, is_opening_begun, openings, Content, BadTag, fresh, moved, checked, of_one, equal, refused, told_of_tag, in_markup, verdict, CharactersGoOn}
 use Rattle.rx_pages.proofs.Below.{markup_is, goes_within, IsRefused}
 
 -- the text, one more character, and the rest of the opening
@@ -65,10 +65,10 @@ module _ (i : Content) (markup : has_markup i ≡ true) where
   at : (text : Chars) (c : ℕ) → verdict Xhtml i (60 ∷ text) c ≡ in_markup Xhtml i text c
   at text c = markup_is Xhtml i text c markup
 
-  by_opening : (text init : Chars) (last : ℕ) → GoesOn Xhtml i [] (60 ∷ init) → Goes text (init ++ last ∷ []) → GoesOn Xhtml i [] (60 ∷ text)
+  by_opening : (text init : Chars) (last : ℕ) → CharactersGoOn Xhtml i [] (60 ∷ init) → Goes text (init ++ last ∷ []) → CharactersGoOn Xhtml i [] (60 ∷ text)
   by_opening text init last g r = goes_within Xhtml i (60 ∷ init) last (60 ∷ text) r.d r.rest g (ap (λ x. 60 ∷ x) r.is)
 
-  by_begun : (text : Chars) → Begun text → GoesOn Xhtml i [] (60 ∷ text)
+  by_begun : (text : Chars) → Begun text → CharactersGoOn Xhtml i [] (60 ∷ text)
   by_begun text (an_end r) = by_opening text [] 47 (refl, tt) r
   by_begun text (a_question r) = by_opening text [] 63 (refl, tt) r
   by_begun text (a_comment r) = by_opening text (codes "!-") 45 (refl, (at [] 33, (at (codes "!") 45, tt))) r
@@ -78,7 +78,7 @@ module _ (i : Content) (markup : has_markup i ≡ true) where
       by_opening text (codes "!DOCTYP") 69 (refl, (at [] 33, (at (codes "!") 68, (at (codes "!D") 79, (at (codes "!DO") 67, (at (codes "!DOC") 84, (at (codes "!DOCT") 89, (at (codes "!DOCTY") 80, tt)))))))) r
 
   -- what begins an opening
-  pub opening_goes : (text : Chars) → is_opening_begun text ≡ true → GoesOn Xhtml i [] (60 ∷ text)
+  pub opening_goes : (text : Chars) → is_opening_begun text ≡ true → CharactersGoOn Xhtml i [] (60 ∷ text)
   opening_goes text h =
       let k = both (list_any (λ opening. begins_with text opening) openings) _ h in
       by_begun text (begun text (no_opening text (untrue _ k.1)) k.0)

@@ -1,5 +1,5 @@
 -- What characters that go on are, and what the next one makes of them: text, references, tags and raw text.
-use Rattle.rx_pages.proofs.Words.{◌≡◌, ◌≢◌, ◌∙◌, ℕ, cond, Bool, true, false, List, [], ◌∷◌, ◌++◌, Option, Some, None, Result, Ok, Err, refl, ap, sym, subst, inl, inr, eqb-true, ◌&&◌, ◌||◌, ◌==◌, not, codes, ampersand, semicolon, solidus, less_than_sign, Chars, lowered, both, either, not_both_ways, split, and-true, or_parts, Syntax, Html, Xhtml, same, name_of_raw, is_name, is_body, is_begun, stops_at, meaning, Tag, tag, reference, ends_name, begins, cased, SpellsTag, RunFault, unknown, bad, no_reference, Spells, has_markup, has_references, keeps_runs, has_sections, is_text, raw_name, begins_end, stops_end, ends_with, ends_comment, begins_declaration, doctype_word, Item, Line, Phase, Faulty, is_opening_begun, Content, Kind, is_last, TagState, fresh, tag_step, tag_step_on, tag_on, tag_of, ReadsOn, of_one, equal, spells_each, tag_on-append, repeats_once, refuses_each_fault, Verdict, goes_on, whole, ended, refused, told_of_tag, in_tag, told_of_reference, in_run, in_raw, DoctypePhase, keyword, closed, doctype_on, at_first, verdict}
+use Rattle.rx_pages.proofs.Words.{◌≡◌, ◌≢◌, ◌∙◌, ℕ, cond, Bool, true, false, List, [], ◌∷◌, ◌++◌, Option, Some, None, Result, Ok, Err, refl, ap, sym, subst, inl, inr, eqb-true, ◌&&◌, ◌||◌, ◌==◌, not, codes, ampersand, semicolon, solidus, less_than_sign, Chars, lowered, both, either, not_both_ways, split, and-true, or_parts, Syntax, Html, Xhtml, same, name_of_raw, is_name, is_body, is_begun, stops_at, meaning, Tag, tag, reference, ends_name, begins, cased, SpellsTag, RunFault, unknown, bad, no_reference, Spells, has_markup, has_references, keeps_runs, has_sections, is_text, raw_name, begins_end, stops_end, ends_with, ends_comment, begins_declaration, doctype_word, Item, Line, Phase, Faulty, is_opening_begun, Content, Kind, is_last, TagState, fresh, tag_step, tag_step_on, tag_on, tag_of, ReadsOn, of_one, equal, spells_each, tag_on-append, repeats_once, refuses_each_fault, Verdict, goes_on, whole, ended, refused, told_of_tag, in_tag, told_of_reference, in_run, in_raw, DoctypePhase, keyword, closed, doctype_on, first_verdict, verdict}
 use Rattle.rx_grammar.specs.declared.contents.Content.TheVariants as content
 use Rattle.rx_grammar.specs.declared.faults.Kind.TheVariants as kind
 use Rattle.rx_grammar.specs.Spelling as spelling
@@ -65,7 +65,7 @@ outside s content.Outside c h k = λ depth items line phase. faults.outside_text
 outside s (content.Raw name) c h k = let n = or_parts (c == less_than_sign) _ h in absurd (not_both_ways (not (c == less_than_sign)) (rw n.0 refl) k)
 outside s _ c h k = no_text c true _ h k
 
-pub from_nothing : (s : Syntax) (i : Content) (c : ℕ) → Out s i [] c (at_first i c)
+pub from_nothing : (s : Syntax) (i : Content) (c : ℕ) → Out s i [] c (first_verdict i c)
 from_nothing s i c =
     split (Out s i [] c) (c == less_than_sign || (c == ampersand && has_references i)) _ _
     (λ h. elim (either (c == less_than_sign) _ h) [

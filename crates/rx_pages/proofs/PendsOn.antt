@@ -1,5 +1,5 @@
 -- Characters that go on begin a token; what is read spells one; what is refused is faulty.
-use Rattle.rx_pages.proofs.Words.{◌≡◌, ◌∙◌, ℕ, Bool, true, false, [], ◌∷◌, ◌++◌, Option, Some, None, refl, ap, sym, subst, append-nil, append_assoc, eqb-true, ◌&&◌, ◌==◌, ◌||◌, codes, map-append, length-map, lowered_char, solidus, Chars, lowered, begins_with, both, not_both_ways, by_test, or_from, or_parts, or_left, or_right, Syntax, Html, Xhtml, Tag, Token, tag, section, comment, doctype, SpellsTag, Spells, IsFirst, has_sections, begins_declaration, ends_with, ends_comment, raw_name, begins_end, Unfinished, token_begun, tag_begun, run_begun, opening_begun, Content, Kind, ReadsOn, spells_each, begins_from, snoc_last, whole, refused, verdict, GoesOn, ReadAs, at_last, at_next}
+use Rattle.rx_pages.proofs.Words.{◌≡◌, ◌∙◌, ℕ, Bool, true, false, [], ◌∷◌, ◌++◌, Option, Some, None, refl, ap, sym, subst, append-nil, append_assoc, eqb-true, ◌&&◌, ◌==◌, ◌||◌, codes, map-append, length-map, lowered_char, solidus, Chars, lowered, begins_with, both, not_both_ways, by_test, or_from, or_parts, or_left, or_right, Syntax, Html, Xhtml, Tag, Token, tag, section, comment, doctype, SpellsTag, Spells, IsFirst, has_sections, begins_declaration, ends_with, ends_comment, raw_name, begins_end, Unfinished, token_begun, tag_begun, run_begun, opening_begun, Content, Kind, ReadsOn, spells_each, begins_from, snoc_last, whole, refused, verdict, CharactersGoOn, ReadAs, at_last, at_next}
 use Rattle.rx_grammar.specs.Spelling as spelling
 use Rattle.rx_pages.proofs.Pends.{occurs, Pends, nothing, in_reference, at_less_than, in_end, in_raw_tag, in_a_tag, in_question, in_instruction, in_bogus, in_html_comment, in_strict, in_a_doctype, in_a_section, in_an_opening, FaultyBy, Out, from_nothing, from_reference, from_tag, raw_html, from_raw_tag, from_end}
 use Rattle.rx_pages.proofs.PendsMarks.{as_verdict, from_question, from_instruction, from_html_comment, from_strict, from_section, same_word, begins_doctype, from_doctype}
@@ -28,11 +28,11 @@ step s i o c (in_a_section text h n) = from_section s i h text c n
 step s i o c (in_an_opening text z m b) = on_syntax s Xhtml i (60 ∷ 33 ∷ text) c z (from_opening i m (subst (λ x. occurs x i ≡ true) z o) text c b)
 
 module _ (s : Syntax) (i : Content) (o : occurs s i ≡ true) where
-  pends_on : (text before : Chars) → Pends s i before → GoesOn s i before text → Pends s i (before ++ text)
+  pends_on : (text before : Chars) → Pends s i before → CharactersGoOn s i before text → Pends s i (before ++ text)
   pends_on [] before p g = subst (Pends s i) (sym (append-nil before)) p
   pends_on (c ∷ text) before p g = subst (Pends s i) (append_assoc before (c ∷ []) text) (pends_on text (before ++ c ∷ []) (subst (Out s i before c) g.0 (step s i o c p)) g.1)
 
-  pub pends : (text : Chars) → GoesOn s i [] text → Pends s i text
+  pub pends : (text : Chars) → CharactersGoOn s i [] text → Pends s i text
   pends text g = pends_on text [] nothing g
 
   pub spells_read : (text : Chars) (next : Option ℕ) (token : Token) → ReadAs s i text next token → Spells s i text next token
@@ -42,7 +42,7 @@ module _ (s : Syntax) (i : Content) (o : occurs s i ≡ true) where
       by_whole f next = f next
   spells_read _ _ _ (at_next text c token g h) = subst (Out s i text c) h (step s i o c (pends text g))
 
-  pub faulty_read : (run : Chars) (c : ℕ) (found : Kind) → GoesOn s i [] run → verdict s i run c ≡ refused found → FaultyBy s i found (run ++ c ∷ [])
+  pub faulty_read : (run : Chars) (c : ℕ) (found : Kind) → CharactersGoOn s i [] run → verdict s i run c ≡ refused found → FaultyBy s i found (run ++ c ∷ [])
   faulty_read run c found g h = subst (Out s i run c) h (step s i o c (pends run g))
 
 -- what completes them

@@ -1,5 +1,5 @@
 -- What the next character makes of `<`, and of `<!` before it is known what begins there.
-use Rattle.rx_pages.proofs.Words.{◌≡◌, ◌∙◌, ℕ, Bool, true, false, List, [], ◌∷◌, ◌++◌, refl, ap, sym, subst, append-nil, inl, inr, ◌&&◌, ◌||◌, ◌==◌, not, codes, list_any, map-append, cond-true, cond-false, and_from, or_parts, lowered_char, solidus, is_letter, Chars, lowered, begins_with, both, either, not_both_ways, by_test, split, untrue, and-false, Syntax, Html, Xhtml, comment, begins_tag, has_markup, has_sections, has_less_than, begins_markup, ends_with, ends_comment, begins_declaration, Faulty, meets_opening, is_opening_begun, openings, Content, fresh, ReadsOn, of_one, equal, has_end, repeats_once, keyword, whole_if, goes_on, is_mark, in_tag, verdict}
+use Rattle.rx_pages.proofs.Words.{◌≡◌, ◌∙◌, ℕ, Bool, true, false, List, [], ◌∷◌, ◌++◌, refl, ap, sym, subst, append-nil, inl, inr, ◌&&◌, ◌||◌, ◌==◌, not, codes, list_any, map-append, cond-true, cond-false, and_from, or_parts, lowered_char, solidus, is_letter, Chars, lowered, begins_with, both, either, not_both_ways, by_test, split, untrue, and-false, Syntax, Html, Xhtml, comment, begins_tag, has_markup, has_sections, has_less_than, begins_markup, ends_with, ends_comment, begins_declaration, Faulty, meets_opening, is_opening_begun, openings, Content, fresh, ReadsOn, of_one, equal, has_end, repeats_once, keyword, whole_if, goes_on, is_markup_sign, in_tag, verdict}
 use Rattle.rx_grammar.specs.declared.contents.Content.TheVariants as content
 use Rattle.rx_grammar.specs.declared.faults.Kind.TheVariants as kind
 use Rattle.rx_grammar.specs.Spelling as spelling
@@ -25,19 +25,19 @@ module _ (i : Content) (m : has_markup i ≡ true) (c : ℕ) where
   first_in_tag : (s : Syntax) → is_first s c ≡ true → Out s i (60 ∷ []) c (in_tag s [] c)
   first_in_tag s h = tag_out s i [] c (nothing_read s) (in_markup' m h) (λ t sp next. spelling.a_tag (c ∷ []) t m sp) (λ q. in_a_tag (c ∷ []) m h q)
 
-  html_mark : is_mark c ≡ true → Pends Html i (60 ∷ c ∷ [])
+  html_mark : is_markup_sign c ≡ true → Pends Html i (60 ∷ c ∷ [])
   html_mark h = elim (either (c == 33) (c == 63) h) [
     | inl e ↦ of_one (λ x. Pends Html i (60 ∷ x ∷ [])) c 33 e (in_bogus [] refl m (and-false (has_sections i)) (no_front_nil (ends_with (codes ">")) refl))
     | inr e ↦ of_one (λ x. Pends Html i (60 ∷ x ∷ [])) c 63 e (in_question [] refl m (no_front_nil (ends_with (codes ">")) refl))
   ]
 
-  xhtml_mark : is_mark c ≡ true → Pends Xhtml i (60 ∷ c ∷ [])
+  xhtml_mark : is_markup_sign c ≡ true → Pends Xhtml i (60 ∷ c ∷ [])
   xhtml_mark h = elim (either (c == 33) (c == 63) h) [
     | inl e ↦ of_one (λ x. Pends Xhtml i (60 ∷ x ∷ [])) c 33 e (in_an_opening [] refl m refl)
     | inr e ↦ of_one (λ x. Pends Xhtml i (60 ∷ x ∷ [])) c 63 e (in_instruction [] refl m (no_front_nil (ends_with (codes "?>")) refl))
   ]
 
-  html_first : is_mark c ≡ false → not (begins_markup c) ≡ false → is_first Html c ≡ true
+  html_first : is_markup_sign c ≡ false → not (begins_markup c) ≡ false → is_first Html c ≡ true
   html_first e f =
       let n = or_parts (c == 33) (c == 63) e in
       by_test (is_first Html c) (λ t. t)
@@ -46,7 +46,7 @@ module _ (i : Content) (m : has_markup i ≡ true) (c : ℕ) where
   from_html : occurs Html i ≡ true → Out Html i (60 ∷ []) c (verdict Html i (60 ∷ []) c)
   from_html o =
       as_verdict Html i (60 ∷ []) c _ (markup_is Html i [] c m)
-      (split (Out Html i (60 ∷ []) c) (is_mark c) _ _ html_mark
+      (split (Out Html i (60 ∷ []) c) (is_markup_sign c) _ _ html_mark
       (λ e. split (Out Html i (60 ∷ []) c) (not (begins_markup c)) _ _
       (λ f. split (Out Html i (60 ∷ []) c) (has_less_than i) _ _
       (λ h. spelling.a_less_than refl h f)
@@ -54,7 +54,7 @@ module _ (i : Content) (m : has_markup i ≡ true) (c : ℕ) where
       (λ f. first_in_tag Html (html_first e f))))
 
   -- no opening begins with the character
-  meets_none : is_mark c ≡ false → is_first Xhtml c ≡ false → meets_opening (c ∷ []) ≡ false
+  meets_none : is_markup_sign c ≡ false → is_first Xhtml c ≡ false → meets_opening (c ∷ []) ≡ false
   meets_none e f =
       let n = or_parts (c == 33) (c == 63) e in
       let k = or_parts (c == solidus) (begins_tag Xhtml c) f in
@@ -65,7 +65,7 @@ module _ (i : Content) (m : has_markup i ≡ true) (c : ℕ) where
 
   from_xhtml : Out Xhtml i (60 ∷ []) c (verdict Xhtml i (60 ∷ []) c)
   from_xhtml =
-      by_test (is_mark c)
+      by_test (is_markup_sign c)
       (λ e. as_verdict Xhtml i (60 ∷ []) c goes_on (markup_is Xhtml i [] c m ∙ cond-true _ _ _ e) (xhtml_mark e))
       (λ e. by_test (is_first Xhtml c)
       (λ f. as_verdict Xhtml i (60 ∷ []) c _ (markup_is Xhtml i [] c m ∙ cond-false _ _ _ e) (first_in_tag Xhtml f))

@@ -1,5 +1,5 @@
 -- What a tag leaves open of the elements at the front of a page.
-use Rattle.rx_grammar.proofs.Common.{cond-true, cond-false, and_from, ◌≡◌, ◌∙◌, ℕ, ◌+◌, Bool, true, false, cond, List, [], ◌∷◌, Option, Some, refl, ap, sym, arith, length, ◌&&◌, not, Chars, both, untrue, not_both_ways, split, Syntax, same, is_among, row_of, Tag, tag, Place, is_html, StartTag, Item, enders, is_omissible, is_held, is_ended_by, names_of, has_row, ends_by, Line, inside_of, parent_of, enders_of, Open, after_start, after_end, false_from_ne_true}
+use Rattle.rx_grammar.proofs.Common.{cond-true, cond-false, and_from, ◌≡◌, ◌∙◌, ℕ, ◌+◌, Bool, true, false, cond, List, [], ◌∷◌, Option, Some, refl, ap, sym, arith, length, ◌&&◌, not, Chars, both, untrue, not_both_ways, split, Syntax, same, is_among, row_of, Tag, tag, Place, is_html, StartTag, Item, enders, is_omissible, is_held, is_ended_by, names_listed, has_row, ends_by_token, Line, inside_of, parent_of, enders_of, Open, after_start, after_end, false_from_ne_true}
 use Rattle.rx_pages.proofs.Growing.{pops}
 use Rattle.rx_pages.proofs.Below.{omissible_html, same_turned}
 
@@ -7,7 +7,7 @@ use Rattle.rx_pages.proofs.Below.{omissible_html, same_turned}
 ender_omits : (place : Place) (name other : Chars) → is_among (enders place name) other ≡ true → is_omissible place name ≡ true
 ender_omits place name other h = by (is_html place.content) (row_of name) h
   where
-    by : (b : Bool) (row : Option (List Chars)) → is_among (cond b (names_of row) []) other ≡ true → (b && has_row row) ≡ true
+    by : (b : Bool) (row : Option (List Chars)) → is_among (cond b (names_listed row) []) other ≡ true → (b && has_row row) ≡ true
     by true (Some names) h = refl
     by _ _ h = absurd (cc)
 
@@ -18,8 +18,8 @@ pub record Left (syntax : Syntax) (depth : ℕ) (all to : List Item) (line : Lin
   pub levels : length line + room ≡ depth
 
 module _ (syntax : Syntax) (depth : ℕ) (all : List Item) (item : Item) (u : Tag) (is_tag : item.token ≡ tag u) where
-  ends_of : (place : Place) (parent name : Chars) → ends_by place parent name item.content item.token ≡ ends_by place parent name item.content (tag u)
-  ends_of place parent name = ap (ends_by place parent name item.content) is_tag
+  ends_of : (place : Place) (parent name : Chars) → ends_by_token place parent name item.content item.token ≡ ends_by_token place parent name item.content (tag u)
+  ends_of place parent name = ap (ends_by_token place parent name item.content) is_tag
 
   module _ (start : u.closing ≡ false) (in_html : is_html item.content ≡ true) where
     started : (place : Place) (parent name : Chars) → is_among (enders place name) u.name ≡ true → is_ended_by place parent name (item ∷ []) ≡ true

@@ -1,5 +1,5 @@
 -- The tokens at the front of a page's characters are the first of the page's tokens.
-use Rattle.rx_reader.proofs.Common.{◌≡◌, ◌∙◌, ℕ, Bool, true, List, [], ◌∷◌, ◌++◌, Option, Some, None, refl, ap, sym, subst, append_assoc, Chars, Ok, Entry, Syntax, Token, Spells, a_tag, an_end_of_raw, a_character, a_less_than, a_raw_run, a_reference, a_kept_run, a_comment, a_bogus_comment, a_question, a_strict_comment, an_instruction, a_section, a_doctype, Item, Spelled, no_more, one, values, next_of, Content, kept, not, ampersand, less_than_sign, begins_markup, has_less_than, keeps_runs, raw_name, stops_end, stops_at, IsBefore}
+use Rattle.rx_reader.proofs.Common.{◌≡◌, ◌∙◌, ℕ, Bool, true, List, [], ◌∷◌, ◌++◌, Option, Some, None, refl, ap, sym, subst, append_assoc, Chars, Ok, PlacedCharacter, Syntax, Token, Spells, a_tag, an_end_of_raw, a_character, a_less_than, a_raw_run, a_reference, a_kept_run, a_comment, a_bogus_comment, a_question, a_strict_comment, an_instruction, a_section, a_doctype, Item, Spelled, no_more, one, values, next_of, Content, kept, not, ampersand, less_than_sign, begins_markup, has_less_than, keeps_runs, raw_name, stops_end, stops_at, IsBefore}
 use Rattle.rx_pages.specs.Nesting.{Event, Nesting, Step, nest_step, Goes, stands, goes}
 use Rattle.rx_pages.proofs.Tokens.{same_item}
 
@@ -31,21 +31,21 @@ pub any_next : (s : Syntax) (i : Content) (text : Chars) (token : Token) → Spe
 any_next s i text token sp next = other_next s i text next token (λ test m b. absurd b) sp
 
 -- what follows the last of some tokens
-pub spelled_before : (s : Syntax) (next other : Option ℕ) → ((i : Content) (text : Chars) (token : Token) → Spells s i text next token → Spells s i text other token) → {entries : List Entry} {items : List Item} → Spelled s entries next items → Spelled s entries other items
+pub spelled_before : (s : Syntax) (next other : Option ℕ) → ((i : Content) (text : Chars) (token : Token) → Spells s i text next token → Spells s i text other token) → {entries : List PlacedCharacter} {items : List Item} → Spelled s entries next items → Spelled s entries other items
 spelled_before s next other k no_more = no_more
 spelled_before s next other k (one c run rest item sp f l more) = one c run rest item (by rest sp) f l (spelled_before s next other k more)
   where
-    by : (rest : List Entry) → Spells s item.content (values (c ∷ run)) (next_of (values rest) next) item.token → Spells s item.content (values (c ∷ run)) (next_of (values rest) other) item.token
+    by : (rest : List PlacedCharacter) → Spells s item.content (values (c ∷ run)) (next_of (values rest) next) item.token → Spells s item.content (values (c ∷ run)) (next_of (values rest) other) item.token
     by [] sp = k item.content (values (c ∷ run)) item.token sp
     by (e ∷ rest) sp = sp
 
-next_more : (s : Syntax) (i : Content) (text : Chars) (token : Token) (a run rest : List Entry) → Spells s i text (next_of (values a) (next_of (values run) None)) token → Spells s i text (next_of (values (a ++ (run ++ rest))) None) token
+next_more : (s : Syntax) (i : Content) (text : Chars) (token : Token) (a run rest : List PlacedCharacter) → Spells s i text (next_of (values a) (next_of (values run) None)) token → Spells s i text (next_of (values (a ++ (run ++ rest))) None) token
 next_more s i text token [] [] rest h = any_next s i text token h (next_of (values rest) None)
 next_more s i text token _ _ rest h = h
 
 module _ (syntax : Syntax) (depth : ℕ) (meant expected : Nesting → Type 0) where
   -- what is left of the page behind its front
-  pub record Behind (all some : List Item) (left : List Entry) : Type 0 where
+  pub record Behind (all some : List Item) (left : List PlacedCharacter) : Type 0 where
     pub items : List Item
     pub are : all ≡ some ++ items
     pub spelled : Spelled syntax left None items
@@ -54,7 +54,7 @@ module _ (syntax : Syntax) (depth : ℕ) (meant expected : Nesting → Type 0) w
     pub events : List Event
     pub going : Goes syntax depth expected reached items events
 
-  pub first_tokens : (run rest : List Entry) {n : Nesting} {front whole : List Entry} {next : Option ℕ} {some all : List Item} {es fs : List Event} → Spelled syntax front next some → Spelled syntax whole None all → next ≡ next_of (values run) None → whole ≡ front ++ (run ++ rest)
+  pub first_tokens : (run rest : List PlacedCharacter) {n : Nesting} {front whole : List PlacedCharacter} {next : Option ℕ} {some all : List Item} {es fs : List Event} → Spelled syntax front next some → Spelled syntax whole None all → next ≡ next_of (values run) None → whole ≡ front ++ (run ++ rest)
       → Goes syntax depth meant n some es → Goes syntax depth expected n all fs → Behind all some (run ++ rest)
   first_tokens run rest {all = all} no_more h w e (stands n m) g = record { items = all; are = refl; spelled = subst (λ xs. Spelled syntax xs None all) e h; reached = n; is_meant = m; events = _; going = g }
   first_tokens run rest (one c r front a sp f l more) no_more w e g h = absurd (cc)

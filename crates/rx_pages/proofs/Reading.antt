@@ -1,5 +1,5 @@
 -- What leads from character to character to a verdict.
-use Rattle.rx_pages.proofs.Words.{◌≡◌, ◌∙◌, ℕ, Bool, true, false, List, [], ◌∷◌, ◌++◌, Option, Some, None, refl, ap, sym, subst, append-nil, append_assoc, Chars, not_both_ways, Syntax, Token, IsFirst, has_markup, raw_name, Content, no_end, goes_on, whole, after_less_than, in_markup, verdict, GoesOn, ReadAs, at_last, ◌≢◌}
+use Rattle.rx_pages.proofs.Words.{◌≡◌, ◌∙◌, ℕ, Bool, true, false, List, [], ◌∷◌, ◌++◌, Option, Some, None, refl, ap, sym, subst, append-nil, append_assoc, Chars, not_both_ways, Syntax, Token, IsFirst, has_markup, raw_name, Content, no_end, goes_on, whole, after_less_than, in_markup, verdict, CharactersGoOn, ReadAs, at_last, ◌≢◌}
 use Rattle.rx_grammar.specs.declared.contents.Content.TheVariants as content
 
 -- a list by its last element
@@ -16,23 +16,23 @@ last_of (c ∷ text) = by (last_of text)
     by (a_last front d e) = a_last (c ∷ front) d (ap (λ x. c ∷ x) e)
 
 module _ (s : Syntax) (i : Content) where
-  pub all_go : (before text : Chars) → ((f : Chars) (d : ℕ) (more : Chars) → text ≡ f ++ d ∷ more → verdict s i (before ++ f) d ≡ goes_on) → GoesOn s i before text
+  pub all_go : (before text : Chars) → ((f : Chars) (d : ℕ) (more : Chars) → text ≡ f ++ d ∷ more → verdict s i (before ++ f) d ≡ goes_on) → CharactersGoOn s i before text
   all_go before [] h = tt
   all_go before (c ∷ text) h = (
     subst (λ x. verdict s i x c ≡ goes_on) (append-nil before) (h [] c text refl),
     all_go (before ++ c ∷ []) text (λ f d more e. subst (λ x. verdict s i x d ≡ goes_on) (sym (append_assoc before (c ∷ []) f)) (h (c ∷ f) d more (ap (λ x. c ∷ x) e))),
   )
 
-  pub go_append : (before a b : Chars) → GoesOn s i before a → GoesOn s i (before ++ a) b → GoesOn s i before (a ++ b)
-  go_append before [] b g h = subst (λ x. GoesOn s i x b) (append-nil before) h
-  go_append before (c ∷ a) b g h = (g.0, go_append (before ++ c ∷ []) a b g.1 (subst (λ x. GoesOn s i x b) (sym (append_assoc before (c ∷ []) a)) h))
+  pub go_append : (before a b : Chars) → CharactersGoOn s i before a → CharactersGoOn s i (before ++ a) b → CharactersGoOn s i before (a ++ b)
+  go_append before [] b g h = subst (λ x. CharactersGoOn s i x b) (append-nil before) h
+  go_append before (c ∷ a) b g h = (g.0, go_append (before ++ c ∷ []) a b g.1 (subst (λ x. CharactersGoOn s i x b) (sym (append_assoc before (c ∷ []) a)) h))
 
   -- read to a last character
-  pub read_to : (front : Chars) (c : ℕ) (next : Option ℕ) (token : Token) {text : Chars} → text ≡ front ++ c ∷ [] → GoesOn s i [] front → verdict s i front c ≡ whole token → ReadAs s i text next token
+  pub read_to : (front : Chars) (c : ℕ) (next : Option ℕ) (token : Token) {text : Chars} → text ≡ front ++ c ∷ [] → CharactersGoOn s i [] front → verdict s i front c ≡ whole token → ReadAs s i text next token
   read_to front c next token e g h = subst (λ x. ReadAs s i x next token) (sym e) (at_last front c token g h)
 
   -- what is read to its last character, behind an opening
-  pub reads_through : (opening x : Chars) (next : Option ℕ) (token : Token) → x ≢ [] → GoesOn s i [] opening → ((f : Chars) (d : ℕ) (more : Chars) → x ≡ f ++ d ∷ more → more ≢ [] → verdict s i (opening ++ f) d ≡ goes_on)
+  pub reads_through : (opening x : Chars) (next : Option ℕ) (token : Token) → x ≢ [] → CharactersGoOn s i [] opening → ((f : Chars) (d : ℕ) (more : Chars) → x ≡ f ++ d ∷ more → more ≢ [] → verdict s i (opening ++ f) d ≡ goes_on)
       → ((f : Chars) (d : ℕ) → x ≡ f ++ d ∷ [] → verdict s i (opening ++ f) d ≡ whole token) → ReadAs s i (opening ++ x) next token
   reads_through opening x next token some g on off = by (last_of x)
     where
@@ -43,7 +43,7 @@ module _ (s : Syntax) (i : Content) where
           (go_append [] opening f g (all_go opening f (λ a d more k. on a d (more ++ c ∷ []) (e ∙ (ap (λ y. y ++ c ∷ []) k ∙ append_assoc a (d ∷ more) (c ∷ []))) (λ h. no_end more c (sym h))))) (off f c e)
 
   -- what ends at the first front that meets a test
-  pub reads_first : (opening x : Chars) (test : Chars → Bool) (next : Option ℕ) (token : Token) → IsFirst test x → test [] ≡ false → GoesOn s i [] opening
+  pub reads_first : (opening x : Chars) (test : Chars → Bool) (next : Option ℕ) (token : Token) → IsFirst test x → test [] ≡ false → CharactersGoOn s i [] opening
       → ((f : Chars) (d : ℕ) (more : Chars) → x ≡ f ++ d ∷ more → test (f ++ d ∷ []) ≡ false → verdict s i (opening ++ f) d ≡ goes_on)
       → ((f : Chars) (d : ℕ) → x ≡ f ++ d ∷ [] → test (f ++ d ∷ []) ≡ true → verdict s i (opening ++ f) d ≡ whole token) → ReadAs s i (opening ++ x) next token
   reads_first opening x test next token first none g on off =

@@ -1,5 +1,5 @@
 -- Faults that a character decides outside tags and document types are refused at it.
-use Rattle.rx_pages.proofs.Words.{◌≡◌, ◌≢◌, ◌∙◌, ℕ, true, false, [], ◌∷◌, ◌++◌, None, refl, ap, eqb-true, ◌&&◌, ◌==◌, not, codes, cond-true, cond-false, or_from, or_parts, ampersand, semicolon, less_than_sign, greater_than_sign, is_white_space, Chars, both, untrue, by_test, and-false, Syntax, Html, Xhtml, is_body, is_begun, meaning, RunFault, unknown, bad, no_reference, ends_with, IsFirst, has_markup, has_references, keeps_runs, begins_markup, Content, Kind, Outside, StrictText, UnknownReference, BadReference, refused, told_of_reference, is_mark, in_markup, verdict, GoesOn, body_begun, name_body}
+use Rattle.rx_pages.proofs.Words.{◌≡◌, ◌≢◌, ◌∙◌, ℕ, true, false, [], ◌∷◌, ◌++◌, None, refl, ap, eqb-true, ◌&&◌, ◌==◌, not, codes, cond-true, cond-false, or_from, or_parts, ampersand, semicolon, less_than_sign, greater_than_sign, is_white_space, Chars, both, untrue, by_test, and-false, Syntax, Html, Xhtml, is_body, is_begun, meaning, RunFault, unknown, bad, no_reference, ends_with, IsFirst, has_markup, has_references, keeps_runs, begins_markup, Content, Kind, Outside, StrictText, UnknownReference, BadReference, refused, told_of_reference, is_markup_sign, in_markup, verdict, CharactersGoOn, body_begun, name_body}
 use Rattle.rx_grammar.specs.declared.contents.Content.TheVariants as content
 use Rattle.rx_pages.proofs.Reading.{all_go, go_append, markup_is}
 use Rattle.rx_pages.proofs.Texts.{run_goes, semicolon_stops}
@@ -9,7 +9,7 @@ pub record IsRefused (syntax : Syntax) (inside : Content) (found : Kind) (chars 
   pub front : Chars
   pub c : ℕ
   pub are : chars ≡ front ++ c ∷ []
-  pub go : GoesOn syntax inside [] front
+  pub go : CharactersGoOn syntax inside [] front
   pub refuses : verdict syntax inside front c ≡ refused found
 
 module _ (s : Syntax) (i : Content) (references : has_references i ≡ true) where
@@ -58,7 +58,7 @@ pub refuses_less_than : (c : ℕ) → begins_markup c ≡ false → IsRefused Ht
 refuses_less_than c h =
     record { front = 60 ∷ []; c = c; are = refl; go = (refl, tt); refuses = cond-false _ _ _ no_mark ∙ cond-true _ _ _ (ap not h) }
   where
-    no_mark : is_mark c ≡ false
+    no_mark : is_markup_sign c ≡ false
     no_mark =
         let a = or_parts _ (c == 63) h in
         let b = or_parts _ (c == 33) a.0 in

@@ -1,5 +1,5 @@
 -- What is read under one spot is read of the page, as long as its tokens leave the spot as it is.
-use Rattle.rx_pages.proofs.Words.{◌≡◌, ◌∙◌, ℕ, List, [], ◌∷◌, ◌++◌, refl, sym, ap, subst, append_assoc, append-nil, Result, Ok, Err, Syntax, Item, Fault, Kind, Limits, Event, Nesting, Step, nest_step, Spot, Scanning, Scanned, fault_in, read_byte, with_items, scan_byte_on, scan_on, scan_from, spot_of, step_on, steps_on, no_step, with_events, Progress, progress_of, nested_items, page_byte_on, page_on, telling}
+use Rattle.rx_pages.proofs.Words.{◌≡◌, ◌∙◌, ℕ, List, [], ◌∷◌, ◌++◌, refl, sym, ap, subst, append_assoc, append-nil, Result, Ok, Err, Syntax, Item, Fault, Kind, Limits, Event, Nesting, Step, nest_step, Spot, Scanning, Scanned, fault_in, read_byte, with_items, scan_byte_on, scan_on, scan_from, spot_of, nest_step_on, steps_on, no_step, with_events, Progress, progress_of, nested_items, page_byte_on, page_on, telling}
 use Rattle.rx_pages.proofs.TokenWalk.{steps_from}
 
 -- a fault of the scanner stays
@@ -137,7 +137,7 @@ module _ (syntax : Syntax) (limits : Limits) (spot : Spot) where
     where
       steps_append : (r : Result Step Kind) (a b : List Item) → steps_on syntax limits.depth r (a ++ b) ≡ steps_on syntax limits.depth (steps_on syntax limits.depth r a) b
       steps_append r [] b = refl
-      steps_append r (item ∷ a) b = steps_append (step_on syntax limits.depth r item) a b
+      steps_append r (item ∷ a) b = steps_append (nest_step_on syntax limits.depth r item) a b
 
   pub page_append : (r : Result Progress Fault) (a b : List ℕ) → page_on syntax limits r (a ++ b) ≡ page_on syntax limits (page_on syntax limits r a) b
   page_append r [] b = refl

@@ -1,5 +1,5 @@
 -- How far a page's reading has come: by a byte at each byte, and where a fault is, to that of the byte that decides it.
-use Rattle.rx_pages.proofs.Words.{◌≡◌, ◌∙◌, ℕ, ◌+◌, ◌≤◌, ◌<◌, List, [], ◌∷◌, refl, sym, ap, subst, length, Result, Ok, Err, arith, nat_tests, nat_le, if◌then◌else◌, ◌++◌, by_test, Syntax, answer_of, Fault, Kind, PageTooLong, Limits, Step, Scanned, Progress, read_answer, read_byte, spot_of, steps_on, no_step, progress_of, nested_items, page_byte_on, telling, page_on, page_read, nothing_read}
+use Rattle.rx_pages.proofs.Words.{◌≡◌, ◌∙◌, ℕ, ◌+◌, ◌≤◌, ◌<◌, List, [], ◌∷◌, refl, sym, ap, subst, length, Result, Ok, Err, arith, nat_tests, nat_le, if◌then◌else◌, ◌++◌, by_test, Syntax, answer_of, Fault, Kind, PageTooLong, Limits, Step, Scanned, Progress, read_answer, read_byte, spot_of, steps_on, no_step, progress_of, nested_items, page_byte_on, telling, page_on, page_read, no_progress}
 use Rattle.rx_pages.proofs.ByteFacts.{byte_is}
 use Rattle.rx_pages.proofs.FaultWalk.{fault_stays}
 
@@ -45,5 +45,5 @@ module _ (syntax : Syntax) (limits : Limits) where
   -- what was read of a page isn't too long
   pub read_size : (bytes : List ℕ) (p : Progress) → page_read syntax limits bytes ≡ Ok p → (p.now.scan.at ≡ length bytes) × (length bytes ≤ limits.page)
   read_size bytes p h =
-      let s = subst (λ x. AllSized nothing_read bytes x) h (all_sized bytes nothing_read (omega arith)) in
+      let s = subst (λ x. AllSized no_progress bytes x) h (all_sized bytes no_progress (omega arith)) in
       (omega (arith, s.0), omega (arith, s.0, s.1))

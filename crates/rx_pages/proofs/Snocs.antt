@@ -1,14 +1,14 @@
 -- One more character, and one more token, behind those of a front.
-use Rattle.rx_pages.proofs.Words.{◌≡◌, ◌∙◌, ℕ, Bool, true, false, List, [], ◌∷◌, ◌++◌, refl, sym, ap, subst, append_assoc, append-nil, Option, Some, Ok, ◌&&◌, cond-true, cond-false, right_bracket, greater_than_sign, by_test, Syntax, Entry, Spells, values, next_of, Item, last_from, Spelled, no_more, one, Fits, AllFit, is_literal, no_section_end, Event, Nesting, Step, content_at, nest_step, Goes, stands, goes}
+use Rattle.rx_pages.proofs.Words.{◌≡◌, ◌∙◌, ℕ, Bool, true, false, List, [], ◌∷◌, ◌++◌, refl, sym, ap, subst, append_assoc, append-nil, Option, Some, Ok, ◌&&◌, cond-true, cond-false, right_bracket, greater_than_sign, by_test, Syntax, PlacedCharacter, Spells, values, next_of, Item, last_from, Spelled, no_more, one, Fits, AllFit, is_literal, no_section_end, Event, Nesting, Step, content_at, nest_step, Goes, stands, goes}
 pub use Rattle.rx_pages.proofs.Entered.{entered_one, entered_snoc, page_snoc}
 use Rattle.rx_pages.proofs.Below.{flags_behind}
 
 -- a token behind others
-pub values_next : (es : List Entry) (c : Entry) (r : List Entry) (next : Option ℕ) → next_of (values (es ++ c ∷ r)) next ≡ next_of (values es) (Some c.value)
+pub values_next : (es : List PlacedCharacter) (c : PlacedCharacter) (r : List PlacedCharacter) (next : Option ℕ) → next_of (values (es ++ c ∷ r)) next ≡ next_of (values es) (Some c.value)
 values_next [] c r next = refl
 values_next (e ∷ es) c r next = refl
 
-pub spelled_snoc : (syntax : Syntax) {es : List Entry} {next : Option ℕ} {items : List Item} (c : Entry) (r : List Entry) (after : Option ℕ) (item : Item) → Spelled syntax es next items → next ≡ Some c.value
+pub spelled_snoc : (syntax : Syntax) {es : List PlacedCharacter} {next : Option ℕ} {items : List Item} (c : PlacedCharacter) (r : List PlacedCharacter) (after : Option ℕ) (item : Item) → Spelled syntax es next items → next ≡ Some c.value
     → Spells syntax item.content (values (c ∷ r)) after item.token → item.first ≡ c.first → item.last ≡ last_from c.last r → Spelled syntax (es ++ c ∷ r) after (items ++ item ∷ [])
 spelled_snoc syntax c r after item no_more h sp f l = subst (λ x. Spelled syntax x after (item ∷ [])) (append-nil (c ∷ r)) (one c r [] item sp f l no_more)
 spelled_snoc syntax c r after item (one d run rest i {items = items} s a b more) h sp f l =

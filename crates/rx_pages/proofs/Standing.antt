@@ -1,5 +1,5 @@
 -- Where the tokens lead, they stand at the front of a page.
-use Rattle.rx_pages.proofs.Words.{cond-true, cond-false, not-false, nat_tests, ◌≡◌, ◌∙◌, ℕ, zero, suc, ◌+◌, ◌-◌, ◌<◌, Bool, true, false, List, [], ◌∷◌, ◌++◌, Some, None, refl, ap, sym, subst, arith, length, append_assoc, inl, inr, ◌⊎◌, ◌&&◌, not, nat_le, Result, Ok, Chars, not_both_ways, by_test, split, Syntax, same, is_among, Tag, Token, tag, character, reference, kept, section, comment, doctype, outside, is_alone, is_html, StartTag, Tree, end, element, Item, is_line_feed, start_of, text_of, Line, inside_of, enders_of, Phase, before, within, after, Open, a_root, a_child, Stands, not_begun, still_open, under_start, after_start, after_end, is_innermost, has_ended, is_before, first_row, tag_rows, start_rows, end_rows, Opens, Holds, nothing, a_text, alone, Lead, root_name, Document, a_comment, is_between, Kind, Event, finishes, Step, ended_under, ended_by_end, over, begun_under, line_above, tag_passes, unless_refused, text_step, step_by, nest_step}
+use Rattle.rx_pages.proofs.Words.{cond-true, cond-false, not-false, nat_tests, ◌≡◌, ◌∙◌, ℕ, zero, suc, ◌+◌, ◌-◌, ◌<◌, Bool, true, false, List, [], ◌∷◌, ◌++◌, Some, None, refl, ap, sym, subst, arith, length, append_assoc, inl, inr, ◌⊎◌, ◌&&◌, not, nat_le, Result, Ok, Chars, not_both_ways, by_test, split, Syntax, same, is_among, Tag, Token, tag, character, reference, kept, section, comment, doctype, outside, is_alone, is_html, StartTag, Tree, end, element, Item, is_line_feed, start_tag_of, text_of, Line, inside_of, enders_of, Phase, before, within, after, Open, a_root, a_child, Stands, not_begun, still_open, under_start, after_start, after_end, is_innermost, has_ended, is_before_root, first_row, tag_rows, start_rows, end_rows, IsStartTag, Holds, nothing, a_text, alone, Lead, root_name, Document, a_comment, is_between, Kind, Event, finishes, Step, ended_under, ended_by_end, over, begun_under, line_above, tag_passes, unless_refused, text_step, step_by, nest_step}
 use Rattle.rx_grammar.proofs.Common.{ended}
 use Rattle.rx_grammar.specs.Pages.{passed, a_doctype}
 use Rattle.rx_grammar.specs.declared.contents.Content.TheVariants as content
@@ -73,7 +73,7 @@ module _ (syntax : Syntax) (depth : ℕ) (all : List Item) (item : Item) where
   arrived a b e h = arrive a b (cc) h
 
   -- a start tag under open elements
-  open_at : {room : ℕ} (base : Line) (u : Tag) (es : List Event) → Open syntax room all (item ∷ []) base → length base + room ≡ depth → Opens syntax (inside_of syntax base) item u → is_among (enders_of syntax base) u.name ≡ false → nat_le depth (length base) ≡ false
+  open_at : {room : ℕ} (base : Line) (u : Tag) (es : List Event) → Open syntax room all (item ∷ []) base → length base + room ≡ depth → IsStartTag syntax (inside_of syntax base) item u → is_among (enders_of syntax base) u.name ≡ false → nat_le depth (length base) ≡ false
       → StandsAt (begun_under syntax item u base es)
   open_at [] u es op d o among room = absurd (no_open syntax op refl)
   open_at {room = zero} (s ∷ above) u es op d o among room = absurd (let k = below depth (length (s ∷ above)) room in omega arith)
@@ -97,7 +97,7 @@ module _ (syntax : Syntax) (depth : ℕ) (all : List Item) (item : Item) where
       → unless_refused (first_row (tag_rows syntax depth line within u)) (tag_passes syntax line item u) ≡ Ok step → StandsAt step
   start_within {left = left} line u step op d c k start e =
       let p = passes (first_row (start_rows syntax depth line within u)) (begun_under syntax item u (under_start syntax u.name line) (ended_under syntax u.name line)) step (sym (of_start u.closing _ _ _ _ start) ∙ e) in
-      let n = rows_none (has_ended within) (is_before within && not (same u.name root_name)) _ _ _ p.none in
+      let n = rows_none (has_ended within) (is_before_root within && not (same u.name root_name)) _ _ _ p.none in
       arrive _ step p.is (by_test {G = StandsAt (begun_under syntax item u (under_start syntax u.name line) (ended_under syntax u.name line))} (is_html (inside_of syntax line).content)
       (λ h. let base : under_start syntax u.name line ≡ after_start syntax u.name line = cond-true _ _ _ h in
       let l = pop_start syntax depth all item u k start (ap is_html c ∙ h) line op d in
@@ -131,7 +131,7 @@ module _ (syntax : Syntax) (depth : ℕ) (all : List Item) (item : Item) where
       (c ∙ sym (end_content syntax depth all item u k closing line)) k closing)
 
   -- the root
-  root_at : (items : List Item) (stood : Bool) → all ≡ items ++ item ∷ [] → Lead items stood → (u : Tag) → Opens syntax outside item u → u.name ≡ root_name → (left : ℕ) → suc left ≡ depth → StandsAt (begun_under syntax item u [] [])
+  root_at : (items : List Item) (stood : Bool) → all ≡ items ++ item ∷ [] → Lead items stood → (u : Tag) → IsStartTag syntax outside item u → u.name ≡ root_name → (left : ℕ) → suc left ≡ depth → StandsAt (begun_under syntax item u [] [])
   root_at items stood a lead u o named left d =
       split StandsAt (is_alone syntax outside u) _ _
       (λ is. ended (pages_element u) (record {
@@ -150,17 +150,17 @@ module _ (syntax : Syntax) (depth : ℕ) (all : List Item) (item : Item) where
         holds = subst (λ x. Holds syntax x outside [] (item ∷ []) [] (pages_element u)) d (alone item u o is nothing);
         trail = pages.no_more;
       }))
-      (λ isnt. still_open depth (subst (λ xs. Open syntax left xs [] (start_of item u ∷ [])) (sym a) (a_root items item u lead o named isnt pages.no_more nothing)) (omega arith))
+      (λ isnt. still_open depth (subst (λ xs. Open syntax left xs [] (start_tag_of item u ∷ [])) (sym a) (a_root items item u lead o named isnt pages.no_more nothing)) (omega arith))
     where
       pages_element : Tag → Tree
-      pages_element u = element (start_of item u) end end
+      pages_element u = element (start_tag_of item u) end end
 
   -- before the root
   start_before : (before_items : List Item) (stood : Bool) → all ≡ before_items ++ item ∷ [] → Lead before_items stood → (u : Tag) (step : Step) → item.content ≡ content.Outside → item.token ≡ tag u → u.closing ≡ false
       → unless_refused (first_row (tag_rows syntax depth [] (before stood) u)) (tag_passes syntax [] item u) ≡ Ok step → StandsAt step
   start_before items stood a lead u step c k start e =
       let p = passes (first_row (start_rows syntax depth [] (before stood) u)) (begun_under syntax item u [] []) step (sym (of_start u.closing _ _ _ _ start) ∙ e) in
-      let n = rows_none (has_ended (before stood)) (is_before (before stood) && not (same u.name root_name)) _ _ _ p.none in
+      let n = rows_none (has_ended (before stood)) (is_before_root (before stood) && not (same u.name root_name)) _ _ _ p.none in
       arrive _ step p.is (root_at items stood a lead u (record { content = c; token = k; start = start; allowed = n.allowed; known = n.known }) (same_is u.name root_name (not-false _ n.named)) (depth - 1) (room (below depth 0 n.room)))
     where
       room : 0 < depth → suc (depth - 1) ≡ depth

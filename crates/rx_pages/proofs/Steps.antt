@@ -1,5 +1,5 @@
 -- How one token steps: after a dropped line feed, and where it ends elements whose end tags are omitted.
-use Rattle.rx_pages.proofs.Words.{cond-true, ◌≡◌, ◌∙◌, ℕ, Bool, true, false, cond, List, [], ◌∷◌, ◌++◌, Option, Some, None, refl, ap, sym, ◌&&◌, not, Ok, bytes_decides, Chars, both, not_both_ways, by_test, untrue, Syntax, same, is_among, Tag, Token, tag, character, reference, kept, section, is_alone, is_html, StartTag, Item, is_line_feed, enders, is_omissible, is_held, ends_by, Line, inside_of, parent_of, Phase, within, Rows, under_start, after_end, is_innermost, first_row, tag_rows, start_rows, end_rows, Kind, Event, finishes, Nesting, Step, ended_under, ended_by_end, over, begun_under, line_above, tag_passes, unless_refused, step_by}
+use Rattle.rx_pages.proofs.Words.{cond-true, ◌≡◌, ◌∙◌, ℕ, Bool, true, false, cond, List, [], ◌∷◌, ◌++◌, Option, Some, None, refl, ap, sym, ◌&&◌, not, Ok, bytes_decides, Chars, both, not_both_ways, by_test, untrue, Syntax, same, is_among, Tag, Token, tag, character, reference, kept, section, is_alone, is_html, StartTag, Item, is_line_feed, enders, is_omissible, is_held, ends_by_token, Line, inside_of, parent_of, Phase, within, Rows, under_start, after_end, is_innermost, first_row, tag_rows, start_rows, end_rows, Kind, Event, finishes, Nesting, Step, ended_under, ended_by_end, over, begun_under, line_above, tag_passes, unless_refused, step_by}
 use Rattle.rx_grammar.specs.declared.faults.Kind.TheVariants as kind
 use Rattle.rx_pages.proofs.Contents.{same_is, AllHtml, omissible_html, plaintext_by, self_closed_by}
 
@@ -106,7 +106,7 @@ module _ (syntax : Syntax) (depth : ℕ) (t : StartTag) (line : Line) (item : It
       ∙ ap Ok (ap (λ es. closing es (after_end syntax u.name (t ∷ line))) told_first ∙ (ap (λ l. closing (finishes ∷ ended_by_end syntax u.name line) l) below ∙ ap after_one k.is)))
 
 -- an element that is ended by a token ends, and the token steps as without it
-pub ended : (syntax : Syntax) (depth : ℕ) (t : StartTag) (line : Line) (item : Item) (token : Token) → is_omissible (inside_of syntax line) t.name ≡ true → ends_by (inside_of syntax line) (parent_of line) t.name item.content token ≡ true → (step : Step)
+pub ended : (syntax : Syntax) (depth : ℕ) (t : StartTag) (line : Line) (item : Item) (token : Token) → is_omissible (inside_of syntax line) t.name ≡ true → ends_by_token (inside_of syntax line) (parent_of line) t.name item.content token ≡ true → (step : Step)
     → step_by syntax depth (in_line line) item token ≡ Ok step → step_by syntax depth (in_line (t ∷ line)) item token ≡ Ok (after_one step)
 ended syntax depth t line item (tag u) omits h step e =
     by_test {G = step_by syntax depth (in_line (t ∷ line)) item (tag u) ≡ Ok (after_one step)} u.closing

@@ -1,5 +1,5 @@
 -- A run that is known to be a tag is read as one.
-use Rattle.rx_pages.proofs.Words.{suc, ◌≡◌, ◌≢◌, ◌∙◌, ℕ, ◌+◌, ◌≤◌, length, take, Bool, true, false, [], ◌∷◌, ◌++◌, Some, None, Ok, Err, refl, ap, sym, subst, append-nil, append_assoc, inl, inr, ◌⊎◌, arith, ◌&&◌, ◌==◌, not, drop, and_parts, cond-true, cond-false, and_right, length-map, take-append-drop, length-append, lowered_char, solidus, less_than_sign, Chars, begins_with, lowered, both, by_test, and-false, take-append_seam, drop-append_seam, Syntax, same, name_of_raw, meaning, ends_name, begins, TagFault, has_markup, raw_name, begins_end, stops_end, is_known_tag, is_known_end, is_known_raw, Content, Kind, BadTag, is_last, TagState, fresh, moved, checked, tag_step, tag_step_on, tag_on, ReadsOn, two_fronts, begins_append, last_none, on_err, tag_on-append, parts, is_refused, same_self, goes_on, told_of_tag, in_tag, in_raw, verdict, GoesOn}
+use Rattle.rx_pages.proofs.Words.{suc, ◌≡◌, ◌≢◌, ◌∙◌, ℕ, ◌+◌, ◌≤◌, length, take, Bool, true, false, [], ◌∷◌, ◌++◌, Some, None, Ok, Err, refl, ap, sym, subst, append-nil, append_assoc, inl, inr, ◌⊎◌, arith, ◌&&◌, ◌==◌, not, drop, and_parts, cond-true, cond-false, and_right, length-map, take-append-drop, length-append, lowered_char, solidus, less_than_sign, Chars, begins_with, lowered, both, by_test, and-false, take-append_seam, drop-append_seam, Syntax, same, name_of_raw, meaning, ends_name, begins, TagFault, has_markup, raw_name, begins_end, stops_end, is_known_tag, is_known_end, is_known_raw, Content, Kind, BadTag, is_last, TagState, fresh, moved, checked, tag_step, tag_step_on, tag_on, ReadsOn, two_fronts, begins_append, last_none, on_err, tag_on-append, parts, is_refused, same_self, goes_on, told_of_tag, in_tag, in_raw, verdict, CharactersGoOn}
 use Rattle.rx_grammar.specs.declared.contents.Content.TheVariants as content
 use Rattle.rx_pages.proofs.Reading.{all_go, markup_is, markup_raw, raw_is}
 use Rattle.rx_pages.proofs.RawText.{begins_end_front}
@@ -159,7 +159,7 @@ module _ (s : Syntax) (i : Content) (text : Chars) where
   ]
 
   -- each character of the front of a tag goes on
-  pub front_goes : Known s i text → (front more : Chars) → text ≡ front ++ more → ReadsOn s front → GoesOn s i [] (60 ∷ front)
+  pub front_goes : Known s i text → (front more : Chars) → text ≡ front ++ more → ReadsOn s front → CharactersGoOn s i [] (60 ∷ front)
   front_goes k front more t r = (
     refl,
     all_go s i (60 ∷ []) front (λ f d rest e.

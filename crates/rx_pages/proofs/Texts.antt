@@ -1,5 +1,5 @@
 -- Text and references are read as they are spelled.
-use Rattle.rx_pages.proofs.Words.{◌≡◌, ◌∙◌, ℕ, true, false, [], ◌∷◌, ◌++◌, Option, Some, None, refl, ap, sym, append_assoc, ◌&&◌, ◌==◌, not, list_all, cond-true, cond-false, or_from, or_parts, ampersand, semicolon, less_than_sign, Chars, both, untrue, not_both_ways, by_test, Syntax, Html, is_body, is_begun, stops_at, meaning, character, reference, kept, has_references, keeps_runs, has_less_than, is_text, begins_markup, IsBefore, Content, of_one, begun_front, begun_no_mark, keeps_has, less_markup, less_no_text, amp_no_text, whole, told_of_reference, is_mark, verdict, GoesOn, ReadAs, at_next, body_begun, false_from_ne_true}
+use Rattle.rx_pages.proofs.Words.{◌≡◌, ◌∙◌, ℕ, true, false, [], ◌∷◌, ◌++◌, Option, Some, None, refl, ap, sym, append_assoc, ◌&&◌, ◌==◌, not, list_all, cond-true, cond-false, or_from, or_parts, ampersand, semicolon, less_than_sign, Chars, both, untrue, not_both_ways, by_test, Syntax, Html, is_body, is_begun, stops_at, meaning, character, reference, kept, has_references, keeps_runs, has_less_than, is_text, begins_markup, IsBefore, Content, of_one, begun_front, begun_no_mark, keeps_has, less_markup, less_no_text, amp_no_text, whole, told_of_reference, is_markup_sign, verdict, CharactersGoOn, ReadAs, at_next, body_begun, false_from_ne_true}
 use Rattle.rx_pages.proofs.Reading.{all_go, read_to, markup_is}
 
 -- no run goes on with a semicolon
@@ -21,7 +21,7 @@ module _ (s : Syntax) (i : Content) where
       not_reference = false_from_ne_true (c == ampersand && has_references i) (λ e. let k = both (c == ampersand) _ e in not_both_ways (is_text i c) h (of_one (λ x. is_text i x ≡ false) c 38 k.0 (amp_no_text i k.1)))
 
   -- a run that may become a reference goes on
-  pub run_goes : (run : Chars) → has_references i ≡ true → is_begun run ≡ true → GoesOn s i [] (ampersand ∷ run)
+  pub run_goes : (run : Chars) → has_references i ≡ true → is_begun run ≡ true → CharactersGoOn s i [] (ampersand ∷ run)
   run_goes run r b = (cond-true _ _ _ r, all_go s i (38 ∷ []) run (λ f d more e. cond-true _ _ _ (begun_front (f ++ d ∷ []) more (sym (ap is_begun (e ∙ sym (append_assoc f (d ∷ []) more))) ∙ b))))
 
   pub reads_reference : (next : Option ℕ) (body : Chars) (c : ℕ) → has_references i ≡ true → is_body body ≡ true → meaning s body ≡ Some c → ReadAs s i (ampersand ∷ (body ++ semicolon ∷ [])) next (reference c)
@@ -41,7 +41,7 @@ reads_less_than i None k h = absurd h
 reads_less_than i (Some c) k h =
     at_next (60 ∷ []) c (kept (60 ∷ [])) (refl, tt) (markup_is Html i [] c (less_markup i k) ∙ (cond-false _ _ _ no_mark ∙ (cond-true _ _ _ h ∙ cond-true _ _ _ k)))
   where
-    no_mark : is_mark c ≡ false
+    no_mark : is_markup_sign c ≡ false
     no_mark =
         let a = or_parts _ (c == 63) (untrue (begins_markup c) h) in
         let b = or_parts _ (c == 33) a.0 in

@@ -1,5 +1,5 @@
 -- Reading the entries of a page token by token.
-use Rattle.rx_pages.proofs.Words.{◌≡◌, ◌∙◌, ℕ, ◌+◌, ◌<◌, Bool, true, false, List, [], ◌∷◌, ◌++◌, refl, sym, ap, subst, append_assoc, append-nil, Result, Ok, Err, nat_le, ◌&&◌, ◌||◌, ◌==◌, not, greater_than_sign, right_bracket, less_than_sign, ampersand, Chars, by_test, false_from_ne_true, Syntax, Entry, Token, kept, doctype, has_references, is_text, values, Item, is_literal, Phase, before, is_known_tag, Content, Kind, Limits, Event, Nesting, Step, content_at, nest_step, step_by, going_on, doctype_step, text_step, Verdict, goes_on, whole, ended, at_first, verdict, GoesOn, Spot, Scanning, Scanned, first_of, is_too_long, item_of, is_doctype, told_first, with_item, spot_of, may_lead, with_events, steps_on, no_step}
+use Rattle.rx_pages.proofs.Words.{◌≡◌, ◌∙◌, ℕ, ◌+◌, ◌<◌, Bool, true, false, List, [], ◌∷◌, ◌++◌, refl, sym, ap, subst, append_assoc, append-nil, Result, Ok, Err, nat_le, ◌&&◌, ◌||◌, ◌==◌, not, greater_than_sign, right_bracket, less_than_sign, ampersand, Chars, by_test, false_from_ne_true, Syntax, PlacedCharacter, Token, kept, doctype, has_references, is_text, values, Item, is_literal, Phase, before, is_known_tag, Content, Kind, Limits, Event, Nesting, Step, content_at, nest_step, step_by, going_on, doctype_step, text_step, Verdict, goes_on, whole, ended, first_verdict, verdict, CharactersGoOn, Spot, Scanning, Scanned, first_of, is_too_long, item_of_run, is_doctype, told_first, with_item, spot_of, may_lead, with_events, steps_on, no_step}
 use Rattle.rx_pages.specs.PageReader.{told as told_by}
 use Rattle.rx_pages.proofs.Tokens.{values_append}
 use Rattle.rx_pages.proofs.KnownTags.{TagVerdict, on, known_snoc, known_verdict}
@@ -7,7 +7,7 @@ use Rattle.rx_pages.proofs.EntrySteps.{Stood, scanning_of, stood_by, nested_by, 
 use Rattle.rx_pages.proofs.ByteSteps.{not_long}
 use Rattle.rx_pages.proofs.CharWalk.{is_known, Fine}
 
-abbrev pub stood : Nesting → List Event → Bool → Bool → List Entry → Stood
+abbrev pub stood : Nesting → List Event → Bool → Bool → List PlacedCharacter → Stood
 stood n events two last run = record { run = run; two = two; last = last; nest = n; told = events }
 
 with_both : (a b : List Event) (r : Result Step Kind) → with_events a (with_events b r) ≡ with_events (a ++ b) r
@@ -52,45 +52,45 @@ kept_goes_on syntax depth n item step h (is_kept text e) =
     let same : Ok (text_step n false text) ≡ Ok step = sym (ap (λ token. step_by syntax depth n item token) e) ∙ h in let is : text_step n false text ≡ step = cc in sym (ap (λ (s : Step). s.next) is)
 
 -- the first character of a whole token or of a run, behind some of its characters
-pub first_behind : (unit a : List Entry) (e : Entry) (b : List Entry) → unit ≡ a ++ e ∷ b → first_of a e.first ≡ first_of unit 0
+pub first_behind : (unit a : List PlacedCharacter) (e : PlacedCharacter) (b : List PlacedCharacter) → unit ≡ a ++ e ∷ b → first_of a e.first ≡ first_of unit 0
 first_behind unit [] e b h = ap (λ x. first_of x 0) (sym h)
 first_behind unit (d ∷ a) e b h = ap (λ x. first_of x 0) (sym h)
 
 module _ (syntax : Syntax) (limits : Limits) where
   -- entries that lead from one state to another
-  abbrev pub Leads : Stood → List Entry → Stood → Type 0
+  abbrev pub Leads : Stood → List PlacedCharacter → Stood → Type 0
   Leads st [] mid = st ≡ mid
   Leads st (e ∷ es) mid =
       (is_known syntax limits st ≡ true → e.last < first_of st.run e.first + limits.tag)
       × (is_too_long syntax limits (spot_of syntax st.nest) (st.run ++ e ∷ []) (first_of st.run e.first) e.last ≡ false)
       × ((next : Stood) × ((entry_step syntax limits st e ≡ Ok next) × Leads next es mid))
 
-  pub fine_append : (hi : ℕ) (st mid end : Stood) (xs ys : List Entry) → Leads st xs mid → Fine syntax limits hi mid ys end → Fine syntax limits hi st (xs ++ ys) end
+  pub fine_append : (hi : ℕ) (st mid end : Stood) (xs ys : List PlacedCharacter) → Leads st xs mid → Fine syntax limits hi mid ys end → Fine syntax limits hi st (xs ++ ys) end
   fine_append hi st mid end [] ys l f = subst (λ x. Fine syntax limits hi x ys end) (sym l) f
   fine_append hi st mid end (e ∷ xs) ys l f = (l.0, l.1, (l.2.0, (l.2.1.0, fine_append hi l.2.0 mid end xs ys l.2.1.1 f)))
 
   -- in one content, where no tag is too long
-  module _ (n : Nesting) (events : List Event) (two last : Bool) (unit : List Entry) where
+  module _ (n : Nesting) (events : List Event) (two last : Bool) (unit : List PlacedCharacter) where
     abbrev pub inside : Content
     inside = content_at syntax n
 
     abbrev pub Bound : Type 0
-    Bound = (a : List Entry) (e : Entry) (b : List Entry) → unit ≡ a ++ e ∷ b → is_known_tag syntax inside (values (a ++ e ∷ [])) ≡ true → e.last < first_of unit 0 + limits.tag
+    Bound = (a : List PlacedCharacter) (e : PlacedCharacter) (b : List PlacedCharacter) → unit ≡ a ++ e ∷ b → is_known_tag syntax inside (values (a ++ e ∷ [])) ≡ true → e.last < first_of unit 0 + limits.tag
 
     -- the limits at one entry
-    pub limit_before : Bound → (a : List Entry) (e : Entry) (b : List Entry) → unit ≡ a ++ e ∷ b → is_known_tag syntax inside (values a) ≡ true → e.last < first_of a e.first + limits.tag
+    pub limit_before : Bound → (a : List PlacedCharacter) (e : PlacedCharacter) (b : List PlacedCharacter) → unit ≡ a ++ e ∷ b → is_known_tag syntax inside (values a) ≡ true → e.last < first_of a e.first + limits.tag
     limit_before bound a e b h k = let m = bound a e b h (known_snoc syntax inside a e k) in subst (λ x. e.last < x + limits.tag) (sym (first_behind unit a e b h)) m
 
-    pub limit_with : Bound → (a : List Entry) (e : Entry) (b : List Entry) → unit ≡ a ++ e ∷ b → is_too_long syntax limits (spot_of syntax n) (a ++ e ∷ []) (first_of a e.first) e.last ≡ false
+    pub limit_with : Bound → (a : List PlacedCharacter) (e : PlacedCharacter) (b : List PlacedCharacter) → unit ≡ a ++ e ∷ b → is_too_long syntax limits (spot_of syntax n) (a ++ e ∷ []) (first_of a e.first) e.last ≡ false
     limit_with bound a e b h =
         not_long (is_known_tag syntax inside (values (a ++ e ∷ []))) (first_of a e.first + limits.tag) e.last
         (λ k. let m = bound a e b h k in subst (λ x. e.last < x + limits.tag) (sym (first_behind unit a e b h)) m)
 
-    go_step : (a : List Entry) (e : Entry) → verdict syntax inside (values a) e.value ≡ goes_on → entry_step syntax limits (stood n events two last a) e ≡ Ok (stood n events two last (a ++ e ∷ []))
+    go_step : (a : List PlacedCharacter) (e : PlacedCharacter) → verdict syntax inside (values a) e.value ≡ goes_on → entry_step syntax limits (stood n events two last a) e ≡ Ok (stood n events two last (a ++ e ∷ []))
     go_step a e v = rw (v, append-nil events) refl
 
     -- entries that go on
-    pub go_all : Bound → (a es b : List Entry) → unit ≡ a ++ (es ++ b) → GoesOn syntax inside (values a) (values es) → Leads (stood n events two last a) es (stood n events two last (a ++ es))
+    pub go_all : Bound → (a es b : List PlacedCharacter) → unit ≡ a ++ (es ++ b) → CharactersGoOn syntax inside (values a) (values es) → Leads (stood n events two last a) es (stood n events two last (a ++ es))
     go_all bound a [] b h g = ap (λ x. stood n events two last x) (sym (append-nil a))
     go_all bound a (e ∷ es) b h g = (
       limit_before bound a e (es ++ b) h,
@@ -100,21 +100,21 @@ module _ (syntax : Syntax) (limits : Limits) where
         (
           go_step a e g.0,
           subst (λ x. Leads (stood n events two last (a ++ e ∷ [])) es (stood n events two last x)) (append_assoc a (e ∷ []) es)
-              (go_all bound (a ++ e ∷ []) es b (h ∙ sym (append_assoc a (e ∷ []) (es ++ b))) (subst (λ x. GoesOn syntax inside x (values es)) (sym (values_append a (e ∷ []))) g.1)),
+              (go_all bound (a ++ e ∷ []) es b (h ∙ sym (append_assoc a (e ∷ []) (es ++ b))) (subst (λ x. CharactersGoOn syntax inside x (values es)) (sym (values_append a (e ∷ []))) g.1)),
         ),
       ),
     )
 
     -- the entry that completes a token
-    pub whole_step : (a : List Entry) (e : Entry) (item : Item) (step : Step) → verdict syntax inside (values a) e.value ≡ whole item.token → item_of inside item.token (a ++ e ∷ []) ≡ item
+    pub whole_step : (a : List PlacedCharacter) (e : PlacedCharacter) (item : Item) (step : Step) → verdict syntax inside (values a) e.value ≡ whole item.token → item_of_run inside item.token (a ++ e ∷ []) ≡ item
         → nest_step syntax limits.depth n item ≡ Ok step → (two && is_literal greater_than_sign item) ≡ false
         → entry_step syntax limits (stood n events two last a) e ≡ Ok (stood step.next (events ++ step.events) (last && is_literal right_bracket item) (is_literal right_bracket item) [])
     whole_step a e item step v i st sec = rw (v, i, sec, leads_there syntax limits.depth n item step st, st) refl
 
     -- the entry that tells that a run was text
-    first_again : (spot : Spot) (e : Entry) (sc : Scanning) → sc.run ≡ [] → told_by syntax limits spot false e sc (at_first spot.inside e.value) ≡ told_first syntax limits spot false e sc (at_first spot.inside e.value)
+    first_again : (spot : Spot) (e : PlacedCharacter) (sc : Scanning) → sc.run ≡ [] → told_by syntax limits spot false e sc (first_verdict spot.inside e.value) ≡ told_first syntax limits spot false e sc (first_verdict spot.inside e.value)
     first_again spot e sc h =
-        by_test {G = told_by syntax limits spot false e sc (at_first spot.inside e.value) ≡ told_first syntax limits spot false e sc (at_first spot.inside e.value)} (e.value == less_than_sign || (e.value == ampersand && has_references spot.inside))
+        by_test {G = told_by syntax limits spot false e sc (first_verdict spot.inside e.value) ≡ told_first syntax limits spot false e sc (first_verdict spot.inside e.value)} (e.value == less_than_sign || (e.value == ampersand && has_references spot.inside))
         (λ t. rw t refl)
         (λ t. rw t (by_test (is_text spot.inside e.value) (λ x. rw x refl) (λ x. rw x refl)))
 
@@ -127,28 +127,28 @@ module _ (syntax : Syntax) (limits : Limits) where
         ∙ (ap (λ y. stood_by r.next events y) (steps_from syntax limits.depth step.events (Ok (no_step step.next)) r.items)
         ∙ stood_from syntax limits.depth r.next events step.events (steps_on syntax limits.depth (Ok (no_step step.next)) r.items)))
 
-    pub kept_step : (e : Entry) (item : Item) (step : Step) → verdict syntax inside (values unit) e.value ≡ ended item.token → item_of inside item.token unit ≡ item → nest_step syntax limits.depth n item ≡ Ok step → IsKept item.token
+    pub kept_step : (e : PlacedCharacter) (item : Item) (step : Step) → verdict syntax inside (values unit) e.value ≡ ended item.token → item_of_run inside item.token unit ≡ item → nest_step syntax limits.depth n item ≡ Ok step → IsKept item.token
         → entry_step syntax limits (stood n events two last unit) e ≡ entry_step syntax limits (stood step.next (events ++ step.events) false false []) e
     kept_step e item step v i st k =
         let on : step.next ≡ going_on n = kept_goes_on syntax limits.depth n item step st k in
         ap (λ x. nested_by syntax limits.depth (stood n events two last unit) (told_by syntax limits (spot_of syntax n) false e (scanning_of (stood n events two last unit)) x)) v
-        ∙ (ap (λ x. nested_by syntax limits.depth (stood n events two last unit) (with_item syntax limits (spot_of syntax n) x (told_first syntax limits (spot_of syntax n) false e nothing (at_first inside e.value)))) i
-        ∙ (with_item_steps item step (told_first syntax limits (spot_of syntax n) false e nothing (at_first inside e.value)) st
+        ∙ (ap (λ x. nested_by syntax limits.depth (stood n events two last unit) (with_item syntax limits (spot_of syntax n) x (told_first syntax limits (spot_of syntax n) false e nothing (first_verdict inside e.value)))) i
+        ∙ (with_item_steps item step (told_first syntax limits (spot_of syntax n) false e nothing (first_verdict inside e.value)) st
         ∙ (ap (λ x. nested_by syntax limits.depth (stood step.next (events ++ step.events) false false []) x) (sym (first_again (spot_of syntax n) e nothing refl))
-        ∙ ap (λ (m : Nesting). nested_by syntax limits.depth (stood step.next (events ++ step.events) false false []) (told_by syntax limits (spot_of syntax m) false e nothing (at_first (content_at syntax m) e.value))) (sym on))))
+        ∙ ap (λ (m : Nesting). nested_by syntax limits.depth (stood step.next (events ++ step.events) false false []) (told_by syntax limits (spot_of syntax m) false e nothing (first_verdict (content_at syntax m) e.value))) (sym on))))
       where
         nothing : Scanning
         nothing = scanning_of (stood n events false false [])
 
     -- and no tag is known there
-    pub kept_unknown : (e : Entry) (token : Token) → verdict syntax inside (values unit) e.value ≡ ended token → is_known_tag syntax inside (values (unit ++ e ∷ [])) ≡ true → ⊥
+    pub kept_unknown : (e : PlacedCharacter) (token : Token) → verdict syntax inside (values unit) e.value ≡ ended token → is_known_tag syntax inside (values (unit ++ e ∷ [])) ≡ true → ⊥
     kept_unknown e token v k = by (verdict syntax inside (values unit) e.value) (known_verdict syntax inside (values unit) e.value (subst (λ x. is_known_tag syntax inside x ≡ true) (values_append unit (e ∷ [])) k)) v
       where
         by : (x : Verdict) → TagVerdict x → x ≡ ended token → ⊥
         by _ on h = cc
         by _ _ h = cc
 
-    pub kept_fine : (hi : ℕ) (e : Entry) (es : List Entry) (end : Stood) (item : Item) (step : Step) → verdict syntax inside (values unit) e.value ≡ ended item.token → item_of inside item.token unit ≡ item → nest_step syntax limits.depth n item ≡ Ok step → IsKept item.token
+    pub kept_fine : (hi : ℕ) (e : PlacedCharacter) (es : List PlacedCharacter) (end : Stood) (item : Item) (step : Step) → verdict syntax inside (values unit) e.value ≡ ended item.token → item_of_run inside item.token unit ≡ item → nest_step syntax limits.depth n item ≡ Ok step → IsKept item.token
         → Fine syntax limits hi (stood step.next (events ++ step.events) false false []) (e ∷ es) end → Fine syntax limits hi (stood n events two last unit) (e ∷ es) end
     kept_fine hi e es end item step v i st k f = (
       (λ w. absurd (kept_unknown e item.token v (known_snoc syntax inside unit e w))),

@@ -1,5 +1,5 @@
 -- The reader reads exactly the bytes that the grammar has underway, and comes to where it says.
-use Rattle.rx_pages.proofs.Words.{◌≡◌, ◌∙◌, ℕ, ◌+◌, ◌≤◌, true, false, List, [], ◌++◌, inl, refl, sym, ap, subst, length, append_assoc, append-nil, Result, None, Ok, Err, arith, if◌then◌else◌, take, take-append_seam, encodes, length-append, Entry, IsRead, Syntax, values, next_of, has_no_nul, IsShort, token_of, FaultAt, Fault, Unended, Limits, Line, Phase, Progress, page_read, end_of, fault_in, may_end, first_of, starts_at, token_at, ReadsTo, IsUnderway, ReadsWhatIsUnderway, NothingUnfinished, UnfinishedFollowsFront}
+use Rattle.rx_pages.proofs.Words.{◌≡◌, ◌∙◌, ℕ, ◌+◌, ◌≤◌, true, false, List, [], ◌++◌, inl, refl, sym, ap, subst, length, append_assoc, append-nil, Result, None, Ok, Err, arith, if◌then◌else◌, take, take-append_seam, encodes, length-append, PlacedCharacter, IsRead, Syntax, values, next_of, has_no_nul, IsShort, token_of, FaultAt, Fault, Unended, Limits, Line, Phase, Progress, page_read, page_ended, fault_in, page_may_end, first_of, starts_at, token_at, ReadsTo, IsUnderway, ReadsWhatIsUnderway, NothingUnfinished, UnfinishedFollowsFront}
 use Rattle.rx_grammar.specs.Begun.{Begun as BegunPage}
 use Rattle.rx_pages.proofs.FaultRead.{stands_there, state, at_part}
 use Rattle.rx_pages.proofs.FaultFronts.{begun_whole}
@@ -11,15 +11,15 @@ use Rattle.rx_pages.proofs.Sizes.{read_size}
 use Rattle.rx_pages.proofs.Below.{progress_at, token_first}
 
 -- a fault of what was read is that of the page's end
-ends_at : (p : Progress) (f : Fault) (r : Result Progress Fault) → r ≡ Ok p → end_of r ≡ Err f → f.at ≡ p.now.scan.at
-ends_at p f r h k = by (may_end p.now) (sym (ap end_of h) ∙ k)
+ends_at : (p : Progress) (f : Fault) (r : Result Progress Fault) → r ≡ Ok p → page_ended r ≡ Err f → f.at ≡ p.now.scan.at
+ends_at p f r h k = by (page_may_end p.now) (sym (ap page_ended h) ∙ k)
   where
     by : (b : _) → (if b then Ok p else Err (fault_in p.now.scan Unended)) ≡ Err f → f.at ≡ p.now.scan.at
     by true e = absurd (cc)
     by false e = let same : fault_in p.now.scan Unended ≡ f = cc in sym (ap (λ (x : Fault). x.at) same)
 
 module _ (syntax : Syntax) (limits : Limits) where
-  pub reads_to : (bytes : List ℕ) (line : Line) (phase : Phase) (run : List Entry) (part : List ℕ) → IsUnderway syntax limits bytes line phase run part → ReadsTo syntax limits bytes line phase run part
+  pub reads_to : (bytes : List ℕ) (line : Line) (phase : Phase) (run : List PlacedCharacter) (part : List ℕ) → IsUnderway syntax limits bytes line phase run part → ReadsTo syntax limits bytes line phase run part
   reads_to bytes line phase run part u =
       let sizes : length bytes ≡ length u.whole + length part = ap length u.are ∙ length-append u.whole part in
       let size : length u.whole ≤ limits.page = (let s = u.size in omega arith) in
@@ -47,7 +47,7 @@ module _ (syntax : Syntax) (limits : Limits) where
         short = b.short;
       }
 
-  pub is_underway : (bytes : List ℕ) (line : Line) (phase : Phase) (run : List Entry) (part : List ℕ) → ReadsTo syntax limits bytes line phase run part → IsUnderway syntax limits bytes line phase run part
+  pub is_underway : (bytes : List ℕ) (line : Line) (phase : Phase) (run : List PlacedCharacter) (part : List ℕ) → ReadsTo syntax limits bytes line phase run part → IsUnderway syntax limits bytes line phase run part
   is_underway bytes line phase run part r = by (reads syntax limits bytes)
     where
       by : Reads syntax limits bytes → IsUnderway syntax limits bytes line phase run part
@@ -98,7 +98,7 @@ module _ (syntax : Syntax) (limits : Limits) where
       }
 
 -- the offset of the first byte that belongs to no whole token
-token_is : (syntax : Syntax) (limits : Limits) (bytes : List ℕ) (line : Line) (phase : Phase) (run : List Entry) (part : List ℕ) (r : ReadsTo syntax limits bytes line phase run part) (u : IsUnderway syntax limits bytes line phase run part) → token_at r.now.now.scan ≡ token_of u.whole run
+token_is : (syntax : Syntax) (limits : Limits) (bytes : List ℕ) (line : Line) (phase : Phase) (run : List PlacedCharacter) (part : List ℕ) (r : ReadsTo syntax limits bytes line phase run part) (u : IsUnderway syntax limits bytes line phase run part) → token_at r.now.now.scan ≡ token_of u.whole run
 token_is syntax limits bytes line phase run part r u =
     let at = (read_size syntax limits bytes r.now r.read).0 in
     let sizes : length bytes ≡ length u.whole + length part = ap length u.are ∙ length-append u.whole part in

@@ -1,6 +1,6 @@
 -- How the front of a page goes on to a page: what is open is closed, from the innermost element on.
 use Rattle.std.specs.Prelude.{◌≡◌, ℕ, ◌+◌, ◌<◌, ◌≤◌, Ok, List, [], ◌∷◌, ◌++◌, length, codes, Option, encode_utf8_all, if◌then◌else◌}
-use Rattle.rx_grammar.specs.Common.{Chars, Syntax, Tree, Page, Line, Phase, Begun, is_before, Item, less_than_sign}
+use Rattle.rx_grammar.specs.Common.{Chars, Syntax, Tree, Page, Line, Phase, Begun, is_before_root, Item, less_than_sign}
 use Rattle.rx_grammar.specs.declared.limits.Limits.{Limits}
 use Rattle.rx_pages.specs.Nesting.{Event, begins, says, finishes, Nesting, not_begun, Goes}
 use Rattle.rx_pages.specs.PageReader.{Progress, page_read}
@@ -16,7 +16,7 @@ end_tags (t ∷ above) = end_tag t.name ++ end_tags above
 
 -- What closes the front of a page: an empty root where none has begun, else an end tag for each open element.
 abbrev pub closing : Line → Phase → Chars
-closing line phase = if is_before phase then codes "<html></html>" else end_tags line
+closing line phase = if is_before_root phase then codes "<html></html>" else end_tags line
 
 abbrev pub closed : List ℕ → Line → Phase → List ℕ
 closed bytes line phase = bytes ++ encode_utf8_all (closing line phase)
@@ -33,7 +33,7 @@ pub record IsPage (syntax : Syntax) (limits : Limits) (bytes : List ℕ) : Type 
   pub page : (wide : Limits) → IsWide limits wide (length bytes) → Page syntax wide bytes tree
 
 -- The bytes are the front of a page, and closed they are a page.
-pub record IsFront (syntax : Syntax) (limits : Limits) (bytes : List ℕ) : Type 0 where
+pub record IsPageFront (syntax : Syntax) (limits : Limits) (bytes : List ℕ) : Type 0 where
   pub next : Option ℕ
   pub line : Line
   pub phase : Phase
@@ -53,7 +53,7 @@ AllEnd end [] = Unit {0}
 AllEnd end (item ∷ items) = (item.last < end) × AllEnd end items
 
 -- the bytes are read, and tell this
-pub record Tells (syntax : Syntax) (limits : Limits) (bytes : List ℕ) (events : List Event) : Type 0 where
+pub record TellsEvents (syntax : Syntax) (limits : Limits) (bytes : List ℕ) (events : List Event) : Type 0 where
   pub now : Progress
   pub read : page_read syntax limits bytes ≡ Ok now
   pub told : now.told ≡ events
@@ -66,9 +66,9 @@ pub record ClosedTells (syntax : Syntax) (limits : Limits) (bytes : List ℕ) (l
   pub place : Nesting
   pub events : List Event
   pub going : Goes syntax limits.depth (λ m. m ≡ place) not_begun items events
-  pub front : length bytes + 1 ≤ limits.page → Tells syntax limits (bytes ++ less_than_sign ∷ []) events
+  pub front : length bytes + 1 ≤ limits.page → TellsEvents syntax limits (bytes ++ less_than_sign ∷ []) events
   pub more : List Event
   pub bare : Bare more
   pub tree : Tree
   pub page : (wide : Limits) → IsWide limits wide (length (closed bytes line phase)) → Page syntax wide (closed bytes line phase) tree
-  pub whole : (wide : Limits) → IsWide limits wide (length (closed bytes line phase)) → Tells syntax wide (closed bytes line phase) (events ++ more)
+  pub whole : (wide : Limits) → IsWide limits wide (length (closed bytes line phase)) → TellsEvents syntax wide (closed bytes line phase) (events ++ more)

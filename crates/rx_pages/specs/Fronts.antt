@@ -1,13 +1,13 @@
 -- What the reader has come to behind some bytes of a page, by the grammar alone.
 use Rattle.std.specs.Prelude.{◌≡◌, ◌↔◌, ℕ, ◌≤◌, List, [], ◌++◌, length, take, None, Ok}
-use Rattle.rx_grammar.specs.Common.{Entry, Syntax, values, next_of, Item, Line, inside_of, Phase, Begun, Reached, IsPending, IsPart, IsShort, token_of}
+use Rattle.rx_grammar.specs.Common.{PlacedCharacter, Syntax, values, next_of, Item, Line, inside_of, Phase, Begun, Reached, IsPending, IsPart, IsShort, token_of}
 use Rattle.rx_grammar.specs.declared.limits.Limits.{Limits}
 use Rattle.rx_pages.specs.Nesting.{IsAt}
 use Rattle.rx_pages.specs.PageReader.{Progress, page_read, token_at}
 
 -- The reader reads the bytes, and behind them these elements are open, in this phase; these characters belong to no whole token, and
 -- these bytes to no whole character.
-pub record ReadsTo (syntax : Syntax) (limits : Limits) (bytes : List ℕ) (line : Line) (phase : Phase) (run : List Entry) (part : List ℕ) : Type 0 where
+pub record ReadsTo (syntax : Syntax) (limits : Limits) (bytes : List ℕ) (line : Line) (phase : Phase) (run : List PlacedCharacter) (part : List ℕ) : Type 0 where
   pub now : Progress
   pub read : page_read syntax limits bytes ≡ Ok now
   pub is_at : IsAt line phase now.now.nest
@@ -15,7 +15,7 @@ pub record ReadsTo (syntax : Syntax) (limits : Limits) (bytes : List ℕ) (line 
   pub part_is : now.now.scan.held ≡ part
 
 -- The bytes hold no fault: whole tokens at the front of a page, what begins one more, and what begins a character. No limit is passed.
-pub record IsUnderway (syntax : Syntax) (limits : Limits) (bytes : List ℕ) (line : Line) (phase : Phase) (run : List Entry) (part : List ℕ) : Type 0 where
+pub record IsUnderway (syntax : Syntax) (limits : Limits) (bytes : List ℕ) (line : Line) (phase : Phase) (run : List PlacedCharacter) (part : List ℕ) : Type 0 where
   pub whole : List ℕ
   pub items : List Item
   pub are : bytes ≡ whole ++ part
@@ -27,7 +27,7 @@ pub record IsUnderway (syntax : Syntax) (limits : Limits) (bytes : List ℕ) (li
 
 -- Exactly such bytes are read, and the reader comes to where the grammar says.
 abbrev pub ReadsWhatIsUnderway : Type 0
-ReadsWhatIsUnderway = (syntax : Syntax) (limits : Limits) (bytes : List ℕ) (line : Line) (phase : Phase) (run : List Entry) (part : List ℕ)
+ReadsWhatIsUnderway = (syntax : Syntax) (limits : Limits) (bytes : List ℕ) (line : Line) (phase : Phase) (run : List PlacedCharacter) (part : List ℕ)
     → IsUnderway syntax limits bytes line phase run part ↔ ReadsTo syntax limits bytes line phase run part
 
 -- Nothing is unfinished exactly behind the front of a page.
@@ -38,6 +38,6 @@ NothingUnfinished =
 
 -- What stands before the unfinished token is the front of a page, with the same open elements and phase, whatever follows.
 abbrev pub UnfinishedFollowsFront : Type 0
-UnfinishedFollowsFront = (syntax : Syntax) (limits : Limits) (bytes rest : List ℕ) (line : Line) (phase : Phase) (run : List Entry) (part : List ℕ)
+UnfinishedFollowsFront = (syntax : Syntax) (limits : Limits) (bytes rest : List ℕ) (line : Line) (phase : Phase) (run : List PlacedCharacter) (part : List ℕ)
     → (r : ReadsTo syntax limits bytes line phase run part)
     → Begun syntax limits (take (token_at r.now.now.scan) (bytes ++ rest)) (next_of (values run) None) line phase

@@ -1,16 +1,16 @@
 -- What holds of the tables.
 use Rattle.std.specs.Prelude.{◌≡◌, ◌≢◌, ◌↔◌, ℕ, ◌+◌, ◌≤◌, take, List, [], ◌∷◌, ◌++◌, Option, None, Ok, Err}
-use Rattle.rx_grammar.specs.Common.{Chars, Syntax, Token, Spells, Entry, Item, Spelled, Tree, Page, Unfinished, Faulty, Reached, FaultAt, Line, inside_of, Phase, after, Stands, Begun}
+use Rattle.rx_grammar.specs.Common.{Chars, Syntax, Token, Spells, PlacedCharacter, Item, Spelled, Tree, Page, Unfinished, Faulty, Reached, FaultAt, Line, inside_of, Phase, after, Stands, Begun}
 use Rattle.rx_grammar.specs.declared.contents.Content.{Content}
 use Rattle.rx_grammar.specs.declared.limits.Limits.{Limits}
 use Rattle.rx_grammar.specs.declared.faults.Fault.{Fault}
 use Rattle.rx_grammar.specs.declared.faults.Kind.{Kind}
 use Rattle.rx_grammar.specs.declared.faults.Kind.TheVariants.{Unended}
 use Rattle.rx_pages.specs.Nesting.{Event, Nesting, not_begun, Goes, IsAt, told_trees}
-use Rattle.rx_pages.specs.Scanner.{GoesOn, ReadAs}
+use Rattle.rx_pages.specs.Scanner.{CharactersGoOn, ReadAs}
 use Rattle.rx_pages.specs.Faults.{Decides}
-use Rattle.rx_pages.specs.PageReader.{Progress, page_read, end_of}
-use Rattle.rx_pages.specs.Closings.{closed, IsPage, IsFront, ClosedTells}
+use Rattle.rx_pages.specs.PageReader.{Progress, page_read, page_ended}
+use Rattle.rx_pages.specs.Closings.{closed, IsPage, IsPageFront, ClosedTells}
 
 -- characters that spell a token are read as it
 abbrev pub ReadsEachToken : Type 0
@@ -19,24 +19,24 @@ ReadsEachToken =
     → ReadAs syntax inside text next token
 
 -- tokens that can stand at the front of a page lead to its open elements
-pub record Leads (syntax : Syntax) (depth : ℕ) (items : List Item) (line : Line) (phase : Phase) : Type 0 where
+pub record TokensLead (syntax : Syntax) (depth : ℕ) (items : List Item) (line : Line) (phase : Phase) : Type 0 where
   pub events : List Event
   pub going : Goes syntax depth (IsAt line phase) not_begun items events
 
 abbrev pub FrontsLead : Type 0
 FrontsLead =
-    (syntax : Syntax) (depth : ℕ) (items : List Item) (line : Line) (phase : Phase) → Stands syntax depth items line phase → Leads syntax depth items line phase
+    (syntax : Syntax) (depth : ℕ) (items : List Item) (line : Line) (phase : Phase) → Stands syntax depth items line phase → TokensLead syntax depth items line phase
 
 -- and spelled tokens that lead to open elements can stand at the front of a page
 abbrev pub FrontsStand : Type 0
 FrontsStand =
-    (syntax : Syntax) (depth : ℕ) (entries : List Entry) (next : Option ℕ) (items : List Item) (line : Line) (phase : Phase) → Spelled syntax entries next items
-    → Leads syntax depth items line phase → Stands syntax depth items line phase
+    (syntax : Syntax) (depth : ℕ) (entries : List PlacedCharacter) (next : Option ℕ) (items : List Item) (line : Line) (phase : Phase) → Spelled syntax entries next items
+    → TokensLead syntax depth items line phase → Stands syntax depth items line phase
 
 -- What is left of a page behind the whole tokens of its front, and that it leads from the open elements there to the page's end.
-pub record IsLeft (syntax : Syntax) (depth : ℕ) (all some : List Item) (line : Line) (phase : Phase) (run : List Entry) : Type 0 where
+pub record IsLeft (syntax : Syntax) (depth : ℕ) (all some : List Item) (line : Line) (phase : Phase) (run : List PlacedCharacter) : Type 0 where
   pub items : List Item
-  pub entries : List Entry
+  pub entries : List PlacedCharacter
   pub are : all ≡ some ++ items
   pub spelled : Spelled syntax (run ++ entries) None items
   pub place : Nesting
@@ -46,14 +46,14 @@ pub record IsLeft (syntax : Syntax) (depth : ℕ) (all some : List Item) (line :
 
 abbrev pub PagesGoOn : Type 0
 PagesGoOn =
-    (syntax : Syntax) (limits : Limits) (whole rest : List ℕ) (items : List Item) (line : Line) (phase : Phase) (run : List Entry) (tree : Tree)
+    (syntax : Syntax) (limits : Limits) (whole rest : List ℕ) (items : List Item) (line : Line) (phase : Phase) (run : List PlacedCharacter) (tree : Tree)
     → Reached syntax limits whole items line phase run → (page : Page syntax limits (whole ++ rest) tree)
     → IsLeft syntax limits.depth page.items items line phase run
 
 -- A page is read to its end, and its tree is what is told.
 pub record PageIsRead (syntax : Syntax) (limits : Limits) (bytes : List ℕ) (tree : Tree) : Type 0 where
   pub final : Progress
-  pub is_read : end_of (page_read syntax limits bytes) ≡ Ok final
+  pub is_read : page_ended (page_read syntax limits bytes) ≡ Ok final
   pub trees : told_trees final.told ≡ tree ∷ []
 
 abbrev pub ReadsEachPage : Type 0
@@ -63,13 +63,13 @@ ReadsEachPage = (syntax : Syntax) (limits : Limits) (bytes : List ℕ) (tree : T
 abbrev pub FindsEachFault : Type 0
 FindsEachFault =
     (syntax : Syntax) (limits : Limits) (bytes : List ℕ) (fault : Fault) → FaultAt syntax limits bytes fault
-    → end_of (page_read syntax limits bytes) ≡ Err fault
+    → page_ended (page_read syntax limits bytes) ≡ Err fault
 
 -- Inside of open elements exactly the characters that begin a token, and aren't yet one, go on.
 abbrev pub UnfinishedGoesOn : Type 0
 UnfinishedGoesOn =
     (syntax : Syntax) (line : Line) (c : ℕ) (run : Chars)
-    → Unfinished syntax (inside_of syntax line).content (c ∷ run) ↔ GoesOn syntax (inside_of syntax line).content [] (c ∷ run)
+    → Unfinished syntax (inside_of syntax line).content (c ∷ run) ↔ CharactersGoOn syntax (inside_of syntax line).content [] (c ∷ run)
 
 -- What is read there as a token spells it.
 abbrev pub SpellsEachToken : Type 0
@@ -90,13 +90,13 @@ pub record IsPageRead (syntax : Syntax) (limits : Limits) (bytes : List ℕ) (fi
 
 abbrev pub ReadsOnlyPages : Type 0
 ReadsOnlyPages =
-    (syntax : Syntax) (limits : Limits) (bytes : List ℕ) (final : Progress) → end_of (page_read syntax limits bytes) ≡ Ok final
+    (syntax : Syntax) (limits : Limits) (bytes : List ℕ) (final : Progress) → page_ended (page_read syntax limits bytes) ≡ Ok final
     → IsPageRead syntax limits bytes final
 
 -- and only faults of the grammar are found.
 abbrev pub FindsOnlyFaults : Type 0
 FindsOnlyFaults =
-    (syntax : Syntax) (limits : Limits) (bytes : List ℕ) (fault : Fault) → end_of (page_read syntax limits bytes) ≡ Err fault
+    (syntax : Syntax) (limits : Limits) (bytes : List ℕ) (fault : Fault) → page_ended (page_read syntax limits bytes) ≡ Err fault
     → FaultAt syntax limits bytes fault
 
 -- Whatever follows the byte at which a fault is known, the fault stays: no page begins with the bytes through it. The page's end alone
@@ -131,4 +131,4 @@ OnePlace = (syntax : Syntax) (limits : Limits) (bytes : List ℕ) (next behind :
 -- What stands before the token of a fault is such a front.
 abbrev pub FaultsFollowFronts : Type 0
 FaultsFollowFronts =
-    (syntax : Syntax) (limits : Limits) (bytes : List ℕ) (fault : Fault) → FaultAt syntax limits bytes fault → IsFront syntax limits (take fault.token bytes)
+    (syntax : Syntax) (limits : Limits) (bytes : List ℕ) (fault : Fault) → FaultAt syntax limits bytes fault → IsPageFront syntax limits (take fault.token bytes)

@@ -1,6 +1,6 @@
 -- How the tokens of a page nest, one after another: which elements stand open, and what each token begins, says and ends.
 use Rattle.std.specs.Prelude.{◌≡◌, ℕ, Bool, true, false, not, ◌&&◌, List, [], ◌∷◌, ◌++◌, Option, Some, None, Result, Ok, Err, if◌then◌else◌}
-use Rattle.rx_grammar.specs.Common.{Chars, Syntax, same, is_among, Tag, Token, tag, character, reference, kept, section, comment, doctype, is_alone, is_html, hides, drops_line_feed, StartTag, Tree, end, element, after_text, Item, is_line_feed, start_of, enders, is_omissible, is_held, shown, Line, inside_of, parent_of, Phase, before, within, after, under_start, after_end, tag_rows, first_row}
+use Rattle.rx_grammar.specs.Common.{Chars, Syntax, same, is_among, Tag, Token, tag, character, reference, kept, section, comment, doctype, is_alone, is_html, hides, drops_line_feed, StartTag, Tree, end, element, after_text, Item, is_line_feed, start_tag_of, enders, is_omissible, is_held, shown, Line, inside_of, parent_of, Phase, before, within, after, under_start, after_end, tag_rows, first_row}
 use Rattle.rx_grammar.specs.declared.contents.Content.{Content}
 use Rattle.rx_grammar.specs.declared.faults.Kind.{Kind}
 use Rattle.rx_grammar.specs.declared.faults.Kind.TheVariants.{BadDoctype}
@@ -54,9 +54,9 @@ begun_under syntax item t line ended =
     if is_alone syntax (inside_of syntax line) t then record {
       next =
           over line;
-      events = ended ++ begins (start_of item t) (hides (inside_of syntax line) t) ∷ finishes ∷ [];
+      events = ended ++ begins (start_tag_of item t) (hides (inside_of syntax line) t) ∷ finishes ∷ [];
     }
-    else record { next = record { line = start_of item t ∷ line; phase = within; drops = drops_line_feed (inside_of syntax line) t }; events = ended ++ begins (start_of item t) (hides (inside_of syntax line) t) ∷ [] }
+    else record { next = record { line = start_tag_of item t ∷ line; phase = within; drops = drops_line_feed (inside_of syntax line) t }; events = ended ++ begins (start_tag_of item t) (hides (inside_of syntax line) t) ∷ [] }
 
 abbrev pub line_above : Line → Line
 line_above [] = []

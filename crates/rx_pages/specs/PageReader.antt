@@ -3,7 +3,7 @@ use Rattle.std.specs.Prelude.{ℕ, ◌+◌, ◌-◌, Bool, true, false, not, ◌
 use Rattle.rx_grammar.specs.Common.{right_bracket, greater_than_sign, Syntax, answer_of, Token, doctype, values, last_from, Item, is_literal, Phase, before, after, is_known_tag}
 use Rattle.rx_chars.specs.declared.utf8.Utf8Step.{Utf8Step}
 use Rattle.rx_chars.specs.declared.utf8.Utf8Step.TheVariants.{More, Char, Bad}
-use Rattle.rx_chars.specs.Characters.{Entry, byte_order_mark, line_feed, carriage_return, as_line_end}
+use Rattle.rx_chars.specs.Characters.{PlacedCharacter, byte_order_mark, as_line_end}
 use Rattle.rx_grammar.specs.declared.contents.Content.{Content}
 use Rattle.rx_grammar.specs.declared.faults.Fault.{Fault}
 use Rattle.rx_grammar.specs.declared.faults.Kind.{Kind}
@@ -11,6 +11,7 @@ use Rattle.rx_grammar.specs.declared.faults.Kind.TheVariants.{BadDoctype, NotUtf
 use Rattle.rx_grammar.specs.declared.limits.Limits.{Limits}
 use Rattle.rx_pages.specs.Nesting.{Event, Nesting, not_begun, content_at, Step, nest_step}
 use Rattle.rx_pages.specs.Scanner.{Verdict, goes_on, whole, ended, refused, verdict}
+use Rattle.rx_terms.specs.Ascii.{carriage_return, line_feed}
 
 -- Where a token may stand: the content that it is spelled in, and whether a document type may still come.
 pub record Spot : Type 0 where
@@ -24,7 +25,7 @@ pub record Scanning : Type 0 where
   pub held : List ℕ
   pub started : Bool
   pub after_return : Bool
-  pub run : List Entry
+  pub run : List PlacedCharacter
   pub two : Bool
   pub last : Bool
 
@@ -32,7 +33,7 @@ abbrev pub no_bytes : Scanning
 no_bytes = record { at = 0; held = []; started = false; after_return = false; run = []; two = false; last = false }
 
 -- the offset of the first byte that belongs to no whole token, where these characters belong to none
-abbrev pub first_of : List Entry → ℕ → ℕ
+abbrev pub first_of : List PlacedCharacter → ℕ → ℕ
 first_of [] at = at
 first_of (entry ∷ run) at = entry.first
 
@@ -57,24 +58,24 @@ abbrev pub holding : List ℕ → Scanning → Scanning
 holding held s = record { at = s.at + 1; held = held; started = s.started; after_return = s.after_return; run = s.run; two = s.two; last = s.last }
 
 -- the byte ends a character that isn't entered: a byte order mark, or an LF after a CR
-abbrev pub passed : Scanning → Scanning
-passed s = record { at = s.at + 1; held = []; started = true; after_return = false; run = s.run; two = s.two; last = s.last }
+abbrev pub passed_over : Scanning → Scanning
+passed_over s = record { at = s.at + 1; held = []; started = true; after_return = false; run = s.run; two = s.two; last = s.last }
 
 -- the byte ends a character that is entered, after which this run is left
-abbrev pub entering : Bool → List Entry → Bool → Bool → Scanning → Scanning
+abbrev pub entering : Bool → List PlacedCharacter → Bool → Bool → Scanning → Scanning
 entering after_return run two last s = record { at = s.at + 1; held = []; started = true; after_return = after_return; run = run; two = two; last = last }
 
 -- the characters of a run with its place
-abbrev pub item_of : Content → Token → List Entry → Item
-item_of inside token [] = record { token = token; content = inside; first = 0; last = 0 }
-item_of inside token (entry ∷ run) = record { token = token; content = inside; first = entry.first; last = last_from entry.last run }
+abbrev pub item_of_run : Content → Token → List PlacedCharacter → Item
+item_of_run inside token [] = record { token = token; content = inside; first = 0; last = 0 }
+item_of_run inside token (entry ∷ run) = record { token = token; content = inside; first = entry.first; last = last_from entry.last run }
 
 abbrev pub is_doctype : Token → Bool
 is_doctype doctype = true
 is_doctype _ = false
 
 -- the tag has more bytes than the limit, through the one at `at`
-abbrev pub is_too_long : Syntax → Limits → Spot → List Entry → ℕ → ℕ → Bool
+abbrev pub is_too_long : Syntax → Limits → Spot → List PlacedCharacter → ℕ → ℕ → Bool
 is_too_long syntax limits spot run token at = is_known_tag syntax spot.inside (values run) && nat_le (token + limits.tag) at
 
 module _ (syntax : Syntax) (limits : Limits) (spot : Spot) where
@@ -86,9 +87,9 @@ module _ (syntax : Syntax) (limits : Limits) (spot : Spot) where
       else Ok (record { next = entering after_return [] (s.last && is_literal right_bracket item) (is_literal right_bracket item) s; items = item ∷ [] })
 
   -- what the entry says, where no token ends before it
-  abbrev pub told_first : Bool → Entry → Scanning → Verdict → Result Scanned Kind
+  abbrev pub told_first : Bool → PlacedCharacter → Scanning → Verdict → Result Scanned Kind
   told_first after_return entry s goes_on = Ok (record { next = entering after_return (s.run ++ entry ∷ []) s.two s.last s; items = [] })
-  told_first after_return entry s (whole token) = completed after_return (item_of spot.inside token (s.run ++ entry ∷ [])) s
+  told_first after_return entry s (whole token) = completed after_return (item_of_run spot.inside token (s.run ++ entry ∷ [])) s
   told_first after_return entry s (ended token) = Ok (record { next = entering after_return (entry ∷ []) false false s; items = [] })
   told_first after_return entry s (refused kind) = Err kind
 
@@ -101,12 +102,12 @@ module _ (syntax : Syntax) (limits : Limits) (spot : Spot) where
   abbrev pub after_token : Scanning → Scanning
   after_token s = record { at = s.at; held = s.held; started = s.started; after_return = s.after_return; run = []; two = false; last = false }
 
-  abbrev pub told : Bool → Entry → Scanning → Verdict → Result Scanned Kind
+  abbrev pub told : Bool → PlacedCharacter → Scanning → Verdict → Result Scanned Kind
   told after_return entry s (ended token) =
-      with_item (item_of spot.inside token s.run) (told_first after_return entry (after_token s) (verdict syntax spot.inside [] entry.value))
+      with_item (item_of_run spot.inside token s.run) (told_first after_return entry (after_token s) (verdict syntax spot.inside [] entry.value))
   told after_return entry s other = told_first after_return entry s other
 
-  abbrev pub read_entry : Bool → Entry → Scanning → Result Scanned Kind
+  abbrev pub read_entry : Bool → PlacedCharacter → Scanning → Result Scanned Kind
   read_entry after_return entry s =
       if is_too_long syntax limits spot (s.run ++ entry ∷ []) (first_of s.run entry.first) entry.last then Err TagTooLong
       else told after_return entry s (verdict syntax spot.inside (values s.run) entry.value)
@@ -114,7 +115,7 @@ module _ (syntax : Syntax) (limits : Limits) (spot : Spot) where
   -- a whole character
   abbrev pub read_char : ℕ → Scanning → Result Scanned Kind
   read_char c s =
-      if not s.started && c == byte_order_mark || s.after_return && c == line_feed then Ok (record { next = passed s; items = [] })
+      if not s.started && c == byte_order_mark || s.after_return && c == line_feed then Ok (record { next = passed_over s; items = [] })
       else read_entry (c == carriage_return) (record { value = as_line_end c; first = starts_at s; last = s.at }) s
 
   -- a byte of a character, once the limits of page and tag are kept
@@ -146,11 +147,11 @@ abbrev pub scan_from : Syntax → Limits → Spot → Scanning → List ℕ → 
 scan_from syntax limits spot s bytes = scan_on syntax limits spot (Ok (record { next = s; items = [] })) bytes
 
 -- After some bytes of a page: the characters since the last token, and the elements that are open.
-pub record Reading : Type 0 where
+pub record PageReading : Type 0 where
   pub scan : Scanning
   pub nest : Nesting
 
-abbrev pub no_page : Reading
+abbrev pub no_page : PageReading
 no_page = record { scan = no_bytes; nest = not_begun }
 
 -- a document type may come before the root, once
@@ -166,32 +167,32 @@ abbrev pub with_events : List Event → Result Step Kind → Result Step Kind
 with_events events (Ok step) = Ok (record { next = step.next; events = events ++ step.events })
 with_events events (Err kind) = Err kind
 
-abbrev pub step_on : Syntax → ℕ → Result Step Kind → Item → Result Step Kind
-step_on syntax depth (Ok step) item = with_events step.events (nest_step syntax depth step.next item)
-step_on syntax depth (Err kind) item = Err kind
+abbrev pub nest_step_on : Syntax → ℕ → Result Step Kind → Item → Result Step Kind
+nest_step_on syntax depth (Ok step) item = with_events step.events (nest_step syntax depth step.next item)
+nest_step_on syntax depth (Err kind) item = Err kind
 
 abbrev pub steps_on : Syntax → ℕ → Result Step Kind → List Item → Result Step Kind
 steps_on syntax depth reached [] = reached
-steps_on syntax depth reached (item ∷ items) = steps_on syntax depth (step_on syntax depth reached item) items
+steps_on syntax depth reached (item ∷ items) = steps_on syntax depth (nest_step_on syntax depth reached item) items
 
 abbrev pub no_step : Nesting → Step
 no_step n = record { next = n; events = [] }
 
 -- what has been read of a page, and what was told of it
 pub record Progress : Type 0 where
-  pub now : Reading
+  pub now : PageReading
   pub told : List Event
 
 abbrev pub progress_of : Scanning → Scanning → Result Step Kind → Result Progress Fault
 progress_of s next (Ok step) = Ok (record { now = record { scan = next; nest = step.next }; told = step.events })
 progress_of s next (Err kind) = Err (fault_in s kind)
 
-abbrev pub nested_items : Syntax → ℕ → Reading → Result Scanned Kind → Result Progress Fault
+abbrev pub nested_items : Syntax → ℕ → PageReading → Result Scanned Kind → Result Progress Fault
 nested_items syntax depth r (Ok scanned) = progress_of r.scan scanned.next (steps_on syntax depth (Ok (no_step r.nest)) scanned.items)
 nested_items syntax depth r (Err kind) = Err (fault_in r.scan kind)
 
 -- one more byte of a page, or the fault that it decides
-abbrev pub page_byte : Syntax → Limits → Reading → ℕ → Result Progress Fault
+abbrev pub page_byte : Syntax → Limits → PageReading → ℕ → Result Progress Fault
 page_byte syntax limits r byte = nested_items syntax limits.depth r (read_byte syntax limits (spot_of syntax r.nest) byte r.scan)
 
 abbrev pub telling : List Event → Result Progress Fault → Result Progress Fault
@@ -206,12 +207,12 @@ abbrev pub page_on : Syntax → Limits → Result Progress Fault → List ℕ �
 page_on syntax limits reached [] = reached
 page_on syntax limits reached (byte ∷ bytes) = page_on syntax limits (page_byte_on syntax limits reached byte) bytes
 
-abbrev pub nothing_read : Progress
-nothing_read = record { now = no_page; told = [] }
+abbrev pub no_progress : Progress
+no_progress = record { now = no_page; told = [] }
 
 -- what these bytes of a page lead to, or the first fault that one of them decides
 abbrev pub page_read : Syntax → Limits → List ℕ → Result Progress Fault
-page_read syntax limits bytes = page_on syntax limits (Ok nothing_read) bytes
+page_read syntax limits bytes = page_on syntax limits (Ok no_progress) bytes
 
 abbrev pub is_over : Phase → Bool
 is_over after = true
@@ -222,10 +223,10 @@ is_none_left [] = true
 is_none_left (x ∷ xs) = false
 
 -- a page may end there
-abbrev pub may_end : Reading → Bool
-may_end r = is_none_left r.scan.held && is_none_left r.scan.run && is_over r.nest.phase
+abbrev pub page_may_end : PageReading → Bool
+page_may_end r = is_none_left r.scan.held && is_none_left r.scan.run && is_over r.nest.phase
 
 -- the end of a page
-abbrev pub end_of : Result Progress Fault → Result Progress Fault
-end_of (Ok p) = if may_end p.now then Ok p else Err (fault_in p.now.scan Unended)
-end_of (Err fault) = Err fault
+abbrev pub page_ended : Result Progress Fault → Result Progress Fault
+page_ended (Ok p) = if page_may_end p.now then Ok p else Err (fault_in p.now.scan Unended)
+page_ended (Err fault) = Err fault

@@ -4,7 +4,7 @@ use Rattle.rx_grammar.specs.Common.{ampersand, semicolon, less_than_sign, greate
 use Rattle.rx_grammar.specs.declared.contents.Content.{Content}
 use Rattle.rx_grammar.specs.declared.faults.Kind.{Kind}
 use Rattle.rx_grammar.specs.declared.faults.Kind.TheVariants.{BadTag, BadDoctype, BadReference, Outside, StrictText, UnknownReference}
-use Rattle.rx_reader.specs.Tables.{is_html, is_last}
+use Rattle.rx_reader.specs.Tables.{is_html_syntax, is_last}
 use Rattle.rx_reader.specs.TagReader.{TagState, fresh, tag_on, tag_of}
 
 -- What a character says of those before it, since the last token.
@@ -108,36 +108,36 @@ after_question Html text c = whole_if (ends_with (codes ">") (text ++ c ∷ []))
 after_question Xhtml text c = whole_if (ends_with (codes "?>") (text ++ c ∷ [])) comment
 
 -- after `<`
-abbrev pub is_mark : ℕ → Bool
-is_mark c = c == exclamation_mark || c == question_mark
+abbrev pub is_markup_sign : ℕ → Bool
+is_markup_sign c = c == exclamation_mark || c == question_mark
 
 abbrev pub less_than_text : Content → Verdict
 less_than_text inside = if has_less_than inside then ended (kept (less_than_sign ∷ [])) else refused Outside
 
 abbrev pub in_markup : Syntax → Content → Chars → ℕ → Verdict
-in_markup syntax inside [] c = if is_mark c then goes_on else if is_html syntax && not (begins_markup c) then less_than_text inside else in_tag syntax [] c
+in_markup syntax inside [] c = if is_markup_sign c then goes_on else if is_html_syntax syntax && not (begins_markup c) then less_than_text inside else in_tag syntax [] c
 in_markup syntax inside (d ∷ text) c = if d == exclamation_mark then after_mark syntax inside text c else if d == question_mark then after_question syntax text c else in_tag syntax (d ∷ text) c
 
 abbrev pub after_less_than : Syntax → Content → Option Chars → Chars → ℕ → Verdict
 after_less_than syntax inside None text c = in_markup syntax inside text c
 after_less_than syntax inside (Some name) text c = in_raw syntax name text c
 
-abbrev pub at_first : Content → ℕ → Verdict
-at_first inside c = if c == less_than_sign || (c == ampersand && has_references inside) then goes_on else if is_text inside c then whole (character c) else refused Outside
+abbrev pub first_verdict : Content → ℕ → Verdict
+first_verdict inside c = if c == less_than_sign || (c == ampersand && has_references inside) then goes_on else if is_text inside c then whole (character c) else refused Outside
 
 -- in this content, after these characters since the last token
 abbrev pub verdict : Syntax → Content → Chars → ℕ → Verdict
-verdict syntax inside [] c = at_first inside c
+verdict syntax inside [] c = first_verdict inside c
 verdict syntax inside (d ∷ run) c = if d == less_than_sign then after_less_than syntax inside (raw_name inside) run c else in_run syntax inside run c
 
 -- Each of these characters goes on, after those before it.
-abbrev pub GoesOn : Syntax → Content → Chars → Chars → Type 0
-GoesOn syntax inside before [] = Unit {0}
-GoesOn syntax inside before (c ∷ text) = (verdict syntax inside before c ≡ goes_on) × GoesOn syntax inside (before ++ c ∷ []) text
+abbrev pub CharactersGoOn : Syntax → Content → Chars → Chars → Type 0
+CharactersGoOn syntax inside before [] = Unit {0}
+CharactersGoOn syntax inside before (c ∷ text) = (verdict syntax inside before c ≡ goes_on) × CharactersGoOn syntax inside (before ++ c ∷ []) text
 
 -- The characters are read as this token: at their last one, or at the next one where that tells that they are text.
 pub data ReadAs (syntax : Syntax) (inside : Content) : Chars → Option ℕ → Token → Type 0 where
-  at_last : {next : Option ℕ} (text : Chars) (c : ℕ) (token : Token) → GoesOn syntax inside [] text → verdict syntax inside text c ≡ whole token
+  at_last : {next : Option ℕ} (text : Chars) (c : ℕ) (token : Token) → CharactersGoOn syntax inside [] text → verdict syntax inside text c ≡ whole token
       → ReadAs syntax inside (text ++ c ∷ []) next token
-  at_next : (text : Chars) (c : ℕ) (token : Token) → GoesOn syntax inside [] text → verdict syntax inside text c ≡ ended token
+  at_next : (text : Chars) (c : ℕ) (token : Token) → CharactersGoOn syntax inside [] text → verdict syntax inside text c ≡ ended token
       → ReadAs syntax inside text (Some c) token

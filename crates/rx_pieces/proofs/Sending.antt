@@ -4,7 +4,7 @@ use Rattle.rx_ports.specs.Counts.{Rose}
 use Rattle.rx_ports.specs.Shelves.{WhereKnown, GrowsBy, GrowsByPart}
 use Rattle.rx_ports.specs.declared.shelf.Failed.{Failed}
 use Rattle.rx_ports.proofs.MoveLemmas.{moves_same, moves_then, moves_weaker}
-use Rattle.rx_pieces.specs.Underway.{Underway, Delivery, delivery, nothing_waits, keeps, SentBut, IsUnderway, AddsBytes}
+use Rattle.rx_pieces.specs.Underway.{Underway, Delivery, delivery, nothing_waits, keeps, SentBut, IsHandedOver, AddsBytes}
 
 -- ---- what one sink holds
 
@@ -38,8 +38,8 @@ later_rose a b c h k = omega (arith, h, k)
 
 -- ---- the steps of pieces
 
-stands_by : {start : Option (List ℕ)} {before : ℕ} {text other : List ℕ} {now : Delivery} → text ≡ other → IsUnderway start before text now → IsUnderway start before other now
-stands_by {start} {before} {text} {other} {now} e s = subst (λ (z : List ℕ). IsUnderway start before z now) e s
+stands_by : {start : Option (List ℕ)} {before : ℕ} {text other : List ℕ} {now : Delivery} → text ≡ other → IsHandedOver start before text now → IsHandedOver start before other now
+stands_by {start} {before} {text} {other} {now} e s = subst (λ (z : List ℕ). IsHandedOver start before z now) e s
 
 pub bytes_then : {a b c : Delivery} {x y : List ℕ} → AddsBytes a b x → AddsBytes b c y → AddsBytes a c (x ++ y)
 bytes_then {x = x} {y = y} h k = record { stands = λ start before text s. stands_by (append_assoc text x y) (k.stands start before (text ++ x) (h.stands start before text s)) }
@@ -51,7 +51,7 @@ pub bytes_by : {a b : Delivery} {x y : List ℕ} → x ≡ y → AddsBytes a b x
 bytes_by {a} {b} e h = subst (AddsBytes a b) e h
 
 -- what is added once the sink failed is lost
-lost : {start : Option (List ℕ)} {before : ℕ} {text : List ℕ} {now : Delivery} (more : List ℕ) → now.underway.failed ≡ true → IsUnderway start before text now → IsUnderway start before (text ++ more) now
+lost : {start : Option (List ℕ)} {before : ℕ} {text : List ℕ} {now : Delivery} (more : List ℕ) → now.underway.failed ≡ true → IsHandedOver start before text now → IsHandedOver start before (text ++ more) now
 lost {start} {before} {text} {now} more failed s = record {
   told = moves_weaker _ (λ x y p.
       let part : GrowsByPart text x y = subst (λ (b : Bool). SentBut b now.underway.waiting text x y) failed p in
@@ -129,8 +129,8 @@ cut_at n rest front behind e f = sym (ap₂ ◌++◌ e f ∙ take-append-drop n 
 -- ---- the end
 
 -- nothing was handed over yet
-start_stands : (first : Underway) (held : Option (List ℕ)) (faults : ℕ) → first ≡ nothing_waits false → IsUnderway held faults [] (delivery first held faults)
-start_stands first held faults e = subst (λ (u : Underway). IsUnderway held faults [] (delivery u held faults)) (sym e) (record {
+start_stands : (first : Underway) (held : Option (List ℕ)) (faults : ℕ) → first ≡ nothing_waits false → IsHandedOver held faults [] (delivery first held faults)
+start_stands first held faults e = subst (λ (u : Underway). IsHandedOver held faults [] (delivery u held faults)) (sym e) (record {
   told = moves_same _ (λ x. ([], sym (append-nil x), refl)) held;
   later = omega arith;
   steady = λ f. refl;
@@ -139,10 +139,10 @@ start_stands first held faults e = subst (λ (u : Underway). IsUnderway held fau
 
 -- a text was handed over, and then all was sent that waited
 pub end_stands : {first : Underway} {held : Option (List ℕ)} {faults : ℕ} {text : List ℕ} {filled last : Delivery} → first ≡ nothing_waits false → AddsBytes (delivery first held faults) filled text → AddsBytes filled last []
-    → IsUnderway held faults text last
+    → IsHandedOver held faults text last
 end_stands {first} {held} {faults} {text} e h k = stands_by (append-nil text) ((bytes_then h k).stands held faults [] (start_stands first held faults e))
 
-pub whole_sent : {held next : Option (List ℕ)} {faults after : ℕ} (text : List ℕ) → IsUnderway held faults text (delivery (nothing_waits false) next after) → WhereKnown (GrowsBy text) held next
+pub whole_sent : {held next : Option (List ℕ)} {faults after : ℕ} (text : List ℕ) → IsHandedOver held faults text (delivery (nothing_waits false) next after) → WhereKnown (GrowsBy text) held next
 whole_sent text s = moves_weaker _ (λ x y (sent, e, f). e ∙ ap (λ z. x ++ z) (sym (f ∙ append-nil sent))) s.told
 
 -- a sink that held nothing, and tells what it holds, holds the text

@@ -38,7 +38,7 @@ SentBut true waiting text old new = GrowsByPart text old new
 SentBut false waiting text old new = (sent : List ℕ) × (new ≡ old ++ sent) × (text ≡ sent ++ waiting)
 
 -- so much of a text was handed over, since the sink told to hold `start` and its count of faults was `before`
-pub record IsUnderway (start : Option (List ℕ)) (before : ℕ) (text : List ℕ) (now : Delivery) : Type 0 where
+pub record IsHandedOver (start : Option (List ℕ)) (before : ℕ) (text : List ℕ) (now : Delivery) : Type 0 where
   pub told : WhereKnown (SentBut now.underway.failed now.underway.waiting text) start now.held
   pub later : before ≤ now.faults
   pub steady : now.underway.failed ≡ false → now.faults ≡ before
@@ -46,7 +46,7 @@ pub record IsUnderway (start : Option (List ℕ)) (before : ℕ) (text : List �
 
 -- the bytes were handed over, whatever was before
 pub record AddsBytes (old new : Delivery) (bytes : List ℕ) : Type 0 where
-  pub stands : (start : Option (List ℕ)) (before : ℕ) (text : List ℕ) → IsUnderway start before text old → IsUnderway start before (text ++ bytes) new
+  pub stands : (start : Option (List ℕ)) (before : ℕ) (text : List ℕ) → IsHandedOver start before text old → IsHandedOver start before (text ++ bytes) new
 
 -- a call handed the bytes over: `out` and `sink` became the next ones, where a sink tells what it holds, and its count of faults
 abbrev pub PushesBytes : {S : Type 0} → (S → Option (List ℕ)) → (S → ℕ) → Underway → S → Underway → S → List ℕ → Type 0

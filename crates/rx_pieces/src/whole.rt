@@ -14,9 +14,9 @@ pub struct Whole {
 }
 
 impl Model for Whole {
-    ghost use Rattle.rx_pieces.specs.Kept.{Kept};
+    ghost use Rattle.rx_pieces.specs.Kept.{KeptText};
 
-    ghost Value = { Kept };
+    ghost Value = { KeptText };
 
     ghost view = { λ whole. record { held = whole.bytes.items; faults = whole.faults } };
 }

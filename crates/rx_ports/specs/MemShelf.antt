@@ -1,7 +1,7 @@
 -- A shelf in memory, as its contracts see it.
 use Rattle.std.specs.Prelude.{◌≡◌, ◌<◌, ◌≤◌, ℕ, ◌+◌, ◌^◌, ◌==◌, ◌||◌, nat_le, min, List, [], length, drop, Bool, if◌then◌else◌, Option, Some, None, Result, Ok, Err, is_none, unwrap_or}
 use Rattle.std.specs.List.{list_any}
-use Rattle.rx_ports.specs.Counts.{raised}
+use Rattle.rx_ports.specs.Counts.{count_raised}
 use Rattle.rx_ports.specs.Files.{file_of, file_bytes}
 use Rattle.rx_ports.specs.Shelves.{ShelfContent}
 use Rattle.rx_ports.specs.declared.shelf.Failed.{Failed}
@@ -21,19 +21,19 @@ abbrev pub left_of : List (List ℕ × List ℕ) → Option ℕ → ℕ → List
 left_of files None at = []
 left_of files (Some file) at = drop at (file_bytes files file)
 
-abbrev pub told_by : MemoryShelf → ShelfContent
-told_by shelf = record { files = shelf.files; left = shelf.left; taken = shelf.taken; starts = shelf.starts }
+abbrev pub shelf_content : MemoryShelf → ShelfContent
+shelf_content shelf = record { files = shelf.files; left = shelf.left; taken = shelf.taken; starts = shelf.starts }
 
 abbrev pub new_shelf : List (List ℕ × List ℕ) → ℕ → List ℕ → MemoryShelf
 new_shelf files chunk failing = record { files = files; left = []; taken = 0; starts = 0; chunk = chunk; failing = failing; calls = 0; faults = 0 }
 
 -- whether the next call is one of those that fail
-abbrev pub is_listed : MemoryShelf → Bool
-is_listed shelf = list_any (λ number. number == raised shelf.calls) shelf.failing
+abbrev pub next_fails : MemoryShelf → Bool
+next_fails shelf = list_any (λ number. number == count_raised shelf.calls) shelf.failing
 
 -- whether the next start fails, whatever file it asks for: its number is listed, or it couldn't be counted
 abbrev pub start_fails : MemoryShelf → Bool
-start_fails shelf = is_listed shelf || nat_le (2 ^ 64) (shelf.starts + 1)
+start_fails shelf = next_fails shelf || nat_le (2 ^ 64) (shelf.starts + 1)
 
 abbrev pub start_gives : MemoryShelf → List ℕ → Result (Unit {0}) Failed
 start_gives shelf name = if start_fails shelf || is_none (file_of shelf.files name) then Err (record {}) else Ok tt
@@ -43,12 +43,12 @@ abbrev pub starts_after : Option (List ℕ) → ℕ → ℕ
 starts_after None starts = starts
 starts_after (Some bytes) starts = starts + 1
 
-abbrev pub after_start : MemoryShelf → List ℕ → MemoryShelf
-after_start shelf name =
+abbrev pub started_shelf : MemoryShelf → List ℕ → MemoryShelf
+started_shelf shelf name =
     if start_fails shelf
-    then record shelf { calls = raised shelf.calls; faults = raised shelf.faults }
+    then record shelf { calls = count_raised shelf.calls; faults = count_raised shelf.faults }
     else record shelf {
-      calls = raised shelf.calls;
+      calls = count_raised shelf.calls;
       left = unwrap_or (file_of shelf.files name) shelf.left;
       starts = starts_after (file_of shelf.files name) shelf.starts;
     }
@@ -58,7 +58,7 @@ abbrev pub read_count : MemoryShelf → ℕ → ℕ
 read_count shelf room = min (min room shelf.chunk) (length shelf.left)
 
 abbrev pub read_fails : MemoryShelf → ℕ → Bool
-read_fails shelf room = is_listed shelf || nat_le (2 ^ 64) (shelf.taken + read_count shelf room)
+read_fails shelf room = next_fails shelf || nat_le (2 ^ 64) (shelf.taken + read_count shelf room)
 
 abbrev pub read_gives : MemoryShelf → ℕ → Result ℕ Failed
 read_gives shelf room = if read_fails shelf room then Err (record {}) else Ok (read_count shelf room)
@@ -66,10 +66,10 @@ read_gives shelf room = if read_fails shelf room then Err (record {}) else Ok (r
 abbrev pub after_read : MemoryShelf → ℕ → MemoryShelf
 after_read shelf room =
     if read_fails shelf room
-    then record shelf { calls = raised shelf.calls; faults = raised shelf.faults }
-    else record shelf { calls = raised shelf.calls; left = drop (read_count shelf room) shelf.left; taken = shelf.taken + read_count shelf room }
+    then record shelf { calls = count_raised shelf.calls; faults = count_raised shelf.faults }
+    else record shelf { calls = count_raised shelf.calls; left = drop (read_count shelf room) shelf.left; taken = shelf.taken + read_count shelf room }
 
 -- a place in a started file
-abbrev pub IsPlace : List (List ℕ × List ℕ) → Option ℕ → ℕ → Type 0
-IsPlace files None at = at ≡ 0
-IsPlace files (Some file) at = (file < length files) × (at ≤ length (file_bytes files file))
+abbrev pub IsFilePlace : List (List ℕ × List ℕ) → Option ℕ → ℕ → Type 0
+IsFilePlace files None at = at ≡ 0
+IsFilePlace files (Some file) at = (file < length files) × (at ≤ length (file_bytes files file))

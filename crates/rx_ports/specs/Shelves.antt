@@ -29,7 +29,7 @@ pub record Starts (name : List ℕ) (result : Result (Unit {0}) Failed) (old new
   pub left : MatchResult result (λ _. file_of old.files name ≡ Some new.left) (λ _. new.left ≡ old.left)
 
 -- the first n bytes of the buffer were the next of the file, or nothing was read
-pub record Reads (buf : List ℕ) (result : Result ℕ Failed) (old new : ShelfContent) : Type 0 where
+pub record ShelfReads (buf : List ℕ) (result : Result ℕ Failed) (old new : ShelfContent) : Type 0 where
   pub files : new.files ≡ old.files
   pub starts : new.starts ≡ old.starts
   pub taken : MatchResult result (λ n. new.taken ≡ old.taken + n) (λ _. new.taken ≡ old.taken)
@@ -41,8 +41,8 @@ abbrev pub IsProgress : List ℕ → ℕ → Type 0
 IsProgress piece n = (n ≤ length piece) × (0 < length piece → 0 < n)
 
 -- the first n bytes of the piece were taken, or nothing was
-abbrev pub Takes : List ℕ → Result ℕ Failed → List ℕ → List ℕ → Type 0
-Takes piece result old new = MatchResult result (λ n. new ≡ old ++ take n piece) (λ _. new ≡ old)
+abbrev pub SinkTakes : List ℕ → Result ℕ Failed → List ℕ → List ℕ → Type 0
+SinkTakes piece result old new = MatchResult result (λ n. new ≡ old ++ take n piece) (λ _. new ≡ old)
 
 abbrev pub GrowsBy : List ℕ → List ℕ → List ℕ → Type 0
 GrowsBy piece old new = new ≡ old ++ piece

@@ -1,8 +1,8 @@
 //! A shelf in memory.
 ghost use Rattle.std.specs.Prelude.{◌≡◌, ◌+◌, ◌^◌, ◌<◌, ◌≤◌, ◌⊎◌, IfOk, OnOk, OnErr, MatchResult, Some, length, take};
-ghost use Rattle.rx_ports.specs.Counts.{Rose, raised};
-ghost use Rattle.rx_ports.specs.Shelves.{WhereKnown, Starts, Reads, Lacks};
-ghost use Rattle.rx_ports.specs.MemShelf.{MemoryShelf, new_shelf, told_by, after_start, start_gives, after_read, read_gives, left_of, IsPlace};
+ghost use Rattle.rx_ports.specs.Counts.{Rose, count_raised};
+ghost use Rattle.rx_ports.specs.Shelves.{WhereKnown, Starts, ShelfReads, Lacks};
+ghost use Rattle.rx_ports.specs.MemShelf.{MemoryShelf, new_shelf, shelf_content, started_shelf, start_gives, after_read, read_gives, left_of, IsFilePlace};
 
 use crate::counter::raise;
 use crate::file_list::FileList;
@@ -29,7 +29,7 @@ pub struct MemShelf {
 
 impl Model for MemShelf {
     ghost use Rattle.std.specs.Prelude.{◌<◌};
-    ghost use Rattle.rx_ports.specs.MemShelf.{MemoryShelf, left_of, IsPlace};
+    ghost use Rattle.rx_ports.specs.MemShelf.{MemoryShelf, left_of, IsFilePlace};
 
     ghost Value = { MemoryShelf };
 
@@ -44,7 +44,7 @@ impl Model for MemShelf {
       faults = s.faults;
     } };
 
-    ghost invariant = { λ s. IsPlace s.files s.started s.at × (0 < s.chunk) };
+    ghost invariant = { λ s. IsFilePlace s.files s.started s.at × (0 < s.chunk) };
 }
 
 impl MemShelf {
@@ -69,7 +69,7 @@ impl MemShelf {
 
 /// What is left of the started file.
 fn unread(files: &FileList, started: Option<usize>, at: usize) -> &[u8]
-    requires { IsPlace files.now started at }
+    requires { IsFilePlace files.now started at }
     ensures bytes { result.now ≡ left_of files.now started at }
     ensures fits { at + length result.now < 2 ^ 64 }
 {
@@ -80,17 +80,17 @@ fn unread(files: &FileList, started: Option<usize>, at: usize) -> &[u8]
 }
 
 impl Shelf for MemShelf {
-    ghost told = { λ s. Some (told_by s) };
+    ghost told = { λ s. Some (shelf_content s) };
 
     ghost faults = { λ s. s.faults };
 
     fn start_file(&mut self, name: &str) -> Result<(), Failed>
         ensures result { result ≡ start_gives self.old name.now }
-        ensures state { self.new ≡ after_start self.old name.now }
-        ensures told { WhereKnown (Starts name.now result) (Some (told_by self.old)) (Some (told_by self.new)) }
+        ensures state { self.new ≡ started_shelf self.old name.now }
+        ensures told { WhereKnown (Starts name.now result) (Some (shelf_content self.old)) (Some (shelf_content self.new)) }
         ensures later { self.old.faults ≤ self.new.faults }
         ensures steady { OnOk result (self.new.faults ≡ self.old.faults) }
-        ensures cause { OnErr result (Rose self.old.faults self.new.faults ⊎ Lacks (Some (told_by self.old)) name.now) }
+        ensures cause { OnErr result (Rose self.old.faults self.new.faults ⊎ Lacks (Some (shelf_content self.old)) name.now) }
     {
         self.calls = raise(self.calls);
         let listed = self.failing.contains(&self.calls);
@@ -116,7 +116,7 @@ impl Shelf for MemShelf {
         ensures state { self.new ≡ after_read self.old (length buf.new) }
         ensures bytes { IfOk result (λ n. take n buf.new ≡ take n self.old.left) }
         ensures bound { IfOk result (λ n. n ≤ length buf.new) }
-        ensures told { WhereKnown (Reads buf.new result) (Some (told_by self.old)) (Some (told_by self.new)) }
+        ensures told { WhereKnown (ShelfReads buf.new result) (Some (shelf_content self.old)) (Some (shelf_content self.new)) }
         ensures later { self.old.faults ≤ self.new.faults }
         ensures steady { OnOk result (self.new.faults ≡ self.old.faults) }
         ensures cause { OnErr result (Rose self.old.faults self.new.faults) }

@@ -1,7 +1,7 @@
 //! A sink in memory.
 ghost use Rattle.std.specs.Prelude.{◌≡◌, ◌<◌, ◌≤◌, IfOk, OnOk, OnErr, Some};
-ghost use Rattle.rx_ports.specs.Counts.{Rose, raised};
-ghost use Rattle.rx_ports.specs.Shelves.{WhereKnown, Takes, IsProgress};
+ghost use Rattle.rx_ports.specs.Counts.{Rose, count_raised};
+ghost use Rattle.rx_ports.specs.Shelves.{WhereKnown, SinkTakes, IsProgress};
 ghost use Rattle.rx_ports.specs.MemSink.{MemorySink, new_sink, after_write, write_gives};
 
 use crate::counter::raise;
@@ -83,7 +83,7 @@ impl Sink for MemSink {
         ensures result { result ≡ write_gives self.old piece.now }
         ensures state { self.new ≡ after_write self.old piece.now }
         ensures bound { IfOk result (IsProgress piece.now) }
-        ensures held { WhereKnown (Takes piece.now result) (Some self.old.held) (Some self.new.held) }
+        ensures held { WhereKnown (SinkTakes piece.now result) (Some self.old.held) (Some self.new.held) }
         ensures later { self.old.faults ≤ self.new.faults }
         ensures steady { OnOk result (self.new.faults ≡ self.old.faults) }
         ensures cause { OnErr result (Rose self.old.faults self.new.faults) }

@@ -1,7 +1,7 @@
 //! A shelf of files.
 ghost use Rattle.std.specs.Prelude.{◌≡◌, ◌≤◌, ◌⊎◌, ℕ, IfOk, OnOk, OnErr, Option, length};
 ghost use Rattle.rx_ports.specs.Counts.{Rose};
-ghost use Rattle.rx_ports.specs.Shelves.{ShelfContent, WhereKnown, Starts, Reads, Lacks};
+ghost use Rattle.rx_ports.specs.Shelves.{ShelfContent, WhereKnown, Starts, ShelfReads, Lacks};
 
 /// A call to a shelf or a sink failed.
 #[derive(Clone, Copy, Debug, PartialEq, Eq)]
@@ -29,7 +29,7 @@ pub trait Shelf {
     /// the end of the file. It fails only where the count of faults rose; then nothing was read.
     fn read(&mut self, buf: &mut [u8]) -> Result<usize, Failed>
         ensures bound { IfOk result (λ n. n ≤ length buf.new) }
-        ensures told { WhereKnown (Reads buf.new result) (told self.old) (told self.new) }
+        ensures told { WhereKnown (ShelfReads buf.new result) (told self.old) (told self.new) }
         ensures later { faults self.old ≤ faults self.new }
         ensures steady { OnOk result (faults self.new ≡ faults self.old) }
         ensures cause { OnErr result (Rose (faults self.old) (faults self.new)) };

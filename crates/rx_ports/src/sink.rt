@@ -1,7 +1,7 @@
 //! A sink of bytes.
 ghost use Rattle.std.specs.Prelude.{◌≡◌, ◌≤◌, ℕ, List, IfOk, OnOk, OnErr, Option};
 ghost use Rattle.rx_ports.specs.Counts.{Rose};
-ghost use Rattle.rx_ports.specs.Shelves.{WhereKnown, Takes, IsProgress};
+ghost use Rattle.rx_ports.specs.Shelves.{WhereKnown, SinkTakes, IsProgress};
 
 use crate::shelf::Failed;
 
@@ -19,7 +19,7 @@ pub trait Sink {
     /// where the count of faults rose; then nothing was taken. A device that takes nothing is a fault.
     fn write(&mut self, piece: &[u8]) -> Result<usize, Failed>
         ensures bound { IfOk result (IsProgress piece.now) }
-        ensures held { WhereKnown (Takes piece.now result) (held self.old) (held self.new) }
+        ensures held { WhereKnown (SinkTakes piece.now result) (held self.old) (held self.new) }
         ensures later { faults self.old ≤ faults self.new }
         ensures steady { OnOk result (faults self.new ≡ faults self.old) }
         ensures cause { OnErr result (Rose (faults self.old) (faults self.new)) };

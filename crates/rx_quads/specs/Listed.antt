@@ -7,13 +7,13 @@ use Rattle.rx_quads.specs.Shown.{quad_bytes, shown_quad}
 use Rattle.rx_quads.specs.declared.terms.ShownQuad.{ShownQuad}
 
 -- the triples of a graph, its name if it has one, and what is shown
-pub record Listed : Type 0 where
+pub record ListedGraph : Type 0 where
   pub triples : List CodeTriple
   pub name : Option Chars
   pub shown : ShownQuad
 
 -- the quads that are listed
-abbrev pub quads_of : Listed → List Quad
+abbrev pub quads_of : ListedGraph → List Quad
 quads_of l = quads (triples_seen l.triples) l.name
 
 -- the quad of this number is shown
@@ -23,6 +23,6 @@ pub record ShowsOne (quads : List Quad) (number : ℕ) (now : ShownQuad) : Type 
   pub shown : shown_quad now ≡ quad_bytes quad
 
 -- the quad of this number is shown, or there is none
-abbrev pub Shows : List Quad → ℕ → Bool → ShownQuad → Type 0
-Shows quads number true shown = ShowsOne quads number shown
-Shows quads number false shown = length quads ≤ number
+abbrev pub ShowsQuadAt : List Quad → ℕ → Bool → ShownQuad → Type 0
+ShowsQuadAt quads number true shown = ShowsOne quads number shown
+ShowsQuadAt quads number false shown = length quads ≤ number

@@ -46,20 +46,20 @@ term_bytes (Resource node) = node_bytes node
 term_bytes (Literal text kind) = literal_bytes text kind
 
 -- the name of a graph as a node
-abbrev pub named : Option Chars → Option (Node ℕ)
-named name = option_map (λ iri. Iri iri) name
+abbrev pub graph_node : Option Chars → Option (Node ℕ)
+graph_node name = option_map (λ iri. Iri iri) name
 
 -- the name of a graph, or that it is the default graph
-abbrev pub graph_bytes : Option (Node ℕ) → TermBytes
-graph_bytes None = plain_bytes kind.Nothing []
-graph_bytes (Some node) = node_bytes node
+abbrev pub graph_name_bytes : Option (Node ℕ) → TermBytes
+graph_name_bytes None = plain_bytes kind.Nothing []
+graph_name_bytes (Some node) = node_bytes node
 
 abbrev pub quad_bytes : Quad → QuadBytes
 quad_bytes q = record {
   subject = node_bytes q.triple.subject;
   predicate = iri_bytes q.triple.predicate;
   object = term_bytes q.triple.object;
-  graph = graph_bytes q.graph;
+  graph = graph_name_bytes q.graph;
 }
 
 -- a datatype that isn't xsd:string

@@ -2,7 +2,7 @@
 ghost use Rattle.std.specs.Prelude.{◌≡◌, IfOk, OnErr, length};
 ghost use Rattle.rx_model.specs.Seen.{triples_seen};
 ghost use Rattle.rx_nquads.specs.Quads.{quads};
-ghost use Rattle.rx_quads.specs.Listed.{Shows, quads_of};
+ghost use Rattle.rx_quads.specs.Listed.{ShowsQuadAt, quads_of};
 
 use crate::terms::ShownQuad;
 use rx_graph::Graph;
@@ -23,9 +23,9 @@ pub struct Quads {
 }
 
 impl Model for Quads {
-    ghost use Rattle.rx_quads.specs.Listed.{Listed};
+    ghost use Rattle.rx_quads.specs.Listed.{ListedGraph};
 
-    ghost Value = { Listed };
+    ghost Value = { ListedGraph };
 
     ghost view = { λ q. record { triples = q.graph; name = q.name; shown = q.shown } };
 }
@@ -54,7 +54,7 @@ impl Quads {
     /// stays.
     pub fn show(&mut self, alloc: Global, number: usize) -> Result<bool, NoMemory>
         ensures stays { quads_of self.new ≡ quads_of self.old }
-        ensures shows { IfOk result (λ is_there. Shows (quads_of self.old) number is_there self.new.shown) }
+        ensures shows { IfOk result (λ is_there. ShowsQuadAt (quads_of self.old) number is_there self.new.shown) }
         ensures err { OnErr result (self.new ≡ self.old) }
     {
         if number >= self.graph.len() {

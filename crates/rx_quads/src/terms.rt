@@ -3,7 +3,7 @@ ghost use Rattle.std.specs.Prelude.{◌≡◌, ◌++◌, IfOk, OnOk, codes, stri
 ghost use Rattle.rx_model.specs.Common.{decimal, kind_seen, node_seen, term_seen, triple_seen};
 ghost use Rattle.rx_nquads.specs.Graphs.{lent_name};
 ghost use Rattle.rx_nquads.specs.Quads.{proper_kind, proper_term, quad_of};
-ghost use Rattle.rx_quads.specs.Shown.{plain_bytes, iri_bytes, label_bytes, node_bytes, datatype_bytes, literal_bytes, term_bytes, named, graph_bytes, quad_bytes, shown_term, shown_quad};
+ghost use Rattle.rx_quads.specs.Shown.{plain_bytes, iri_bytes, label_bytes, node_bytes, datatype_bytes, literal_bytes, term_bytes, graph_node, graph_name_bytes, quad_bytes, shown_term, shown_quad};
 
 use rx_terms::{Iri, Literal, LiteralKind, NoMemory, Node, Term, Triple};
 use std::alloc::Global;
@@ -80,7 +80,7 @@ impl ShownTerm {
     }
 
     fn put_name(&mut self, name: Option<&Iri>) -> Result<(), NoMemory>
-        ensures { OnOk result (shown_term self.new ≡ graph_bytes (named (lent_name name.entry))) }
+        ensures { OnOk result (shown_term self.new ≡ graph_name_bytes (graph_node (lent_name name.entry))) }
     {
         match name {
             None => self.put(TermKind::Nothing, b""),

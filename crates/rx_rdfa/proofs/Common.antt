@@ -10,11 +10,11 @@ pub use Rattle.rx_rdfa.proofs.Whole.{written_denotes}
 pub use Rattle.rx_rdfa.specs.Base.{first_href, head_href, root_href}
 pub use Rattle.rx_rdfa.specs.Blanks.{Author, Below, Bnode, Cell, First, Made, ModelNode, ModelTriple, Of, Owner, model, same_bnode, same_owner}
 pub use Rattle.rx_rdfa.specs.Calls.{Call, Leave, after}
-pub use Rattle.rx_rdfa.specs.Element.{Place, completed, end', end_of, in_order, in_order_from, links_by, of_vocabulary, places, places_from, properties_by, standing, start, start_of, text_value, to_node, types_by}
-pub use Rattle.rx_rdfa.specs.Facts.{Datatype, Empty, Facts, Is, LabelRef, Ref, datatype_of, facts, facts_of, iri_of, link, predicate, predicates, present_unless_none, ref_of, stays_beside_property, types_of}
+pub use Rattle.rx_rdfa.specs.Element.{TreePlace, completed, end', end_of, in_order, in_order_from, links_by, of_vocabulary, places, places_from, properties_by, standing, start, start_of, text_value, to_node, types_by}
+pub use Rattle.rx_rdfa.specs.Facts.{Datatype, Empty, Facts, Is, LabelRef, Ref, attribute_datatype, facts, facts_of, iri_of, link, predicate, predicates, present_unless_none, ref_of, stays_beside_property, types_of}
 pub use Rattle.rx_rdfa.specs.Inherited.{at_page, below, handed, hanging_of, hangs, holds_some, inherited, listed, object_below, own_owner, owner_below, up}
-pub use Rattle.rx_rdfa.specs.Lists.{Entry, awaited, cell_or_nil, cells, cells_from, chain, entries, entries_at, entries_by, entries_of, entry, items, linked, list_of, lists, map_entry, of_owner, touched, valued}
-pub use Rattle.rx_rdfa.specs.Machine.{Full, Machine, ReadingMakes, Slot, Waiting, begun, enter, entered, fill, fill_slot, finished, inherit, leave, leave_with, left, number, read, rule_at, settle, settled, settled_item, settled_with, slot_of, value_at}
+pub use Rattle.rx_rdfa.specs.Lists.{ListEntry, awaited, cell_or_nil, cells, cells_from, chain, entries, entries_at, entries_by, entries_of, entry, items, linked, list_of, lists, map_entry, of_owner, touched, valued}
+pub use Rattle.rx_rdfa.specs.Machine.{Full, Machine, ReadingMakes, Slot, Waiting, enter, entered, fill, fill_slot, finished, inherit, leave, leave_with, left, machine_begun, number, read, rule_at, settle, settled, settled_item, settled_with, slot_of, value_at}
 pub use Rattle.rx_rdfa.specs.Made.{end_and_lists, lists_below, lists_of, made, page_lists, raw}
 pub use Rattle.rx_rdfa.specs.Names.{Context, Table, as_lang, counts, declared_or, language, of_prefix, pairs, pairs_after, prefix_name, unless_empty, vocab, without_colon, xmlns_of}
 pub use Rattle.rx_rdfa.specs.Naming.{Naming, Path}
@@ -24,7 +24,8 @@ pub use Rattle.rx_rdfa.specs.Renaming.{Agree, AgreeAt, MadeRenames, label_of, la
 pub use Rattle.rx_rdfa.specs.Resources.{Forward, Hanging, InList, Inherited, Resources, Reverse, Standing, about, base_at_root, default_subject, has_link, has_typeof, is_head_or_body, is_plain_property, is_root, is_root_child, linked_resource, new_blank, of_link, of_no_link, of_property, only, parent_for_head_and_body, resource_attribute, resource_named, resources}
 pub use Rattle.rx_rdfa.specs.Tables.{TablesAreLists, put, table_from}
 pub use Rattle.rx_rdfa.specs.Times.{after_char, after_clock, after_date, after_digits, after_fraction, after_month, after_some_digits, after_year, digits, follows, is_duration, is_zone, time_datatype, time_kind, ◌andThen◌}
-pub use Rattle.rx_rdfa.specs.Tree.{Nodes, Tag, all_text, attribute, value_of_first}
+pub use Rattle.rx_grammar.specs.Trees.{Nodes}
+pub use Rattle.rx_rdfa.specs.Tree.{ElementTag, attribute, element_text, value_of_first}
 pub use Rattle.rx_rdfa.specs.Value.{ByContent, ByDatatype, ByDatetime, ByResource, ByTimeText, ByTyped, Rule, is_time, kind_by_lang, literal_by, plain_literal, rule, rule_or, time_literal, time_literal_by, value, value_now, value_of_text}
 pub use Rattle.rx_rdfa.specs.Whole.{graph_of, written}
 pub use Rattle.rx_refs.specs.Dots.{holds}

@@ -1,5 +1,5 @@
 -- What all of a list have, and all entries of an element.
-use Rattle.rx_rdfa.proofs.Common.{Bool, cond, List, [], ◌∷◌, ◌++◌, map, flat_map, filter_map, Option, Some, None, subst, inl, inr, split, Chars, Among, Node, Term, Resource, Among_cases, Among_of_map, Among_of_filter_map, Among_of_flat_map, Naming, Hanging, Resources, Standing, listed, hangs, own_owner, Entry, entry, linked, touched, valued, awaited, entries_by}
+use Rattle.rx_rdfa.proofs.Common.{Bool, cond, List, [], ◌∷◌, ◌++◌, map, flat_map, filter_map, Option, Some, None, subst, inl, inr, split, Chars, Among, Node, Term, Resource, Among_cases, Among_of_map, Among_of_filter_map, Among_of_flat_map, Naming, Hanging, Resources, Standing, listed, hangs, own_owner, ListEntry, entry, linked, touched, valued, awaited, entries_by}
 
 module _ {A : Type 0} (P : A → Type 0) where
   abbrev pub All : List A → Type 0
@@ -37,7 +37,7 @@ module _ {A : Type 0} (P : A → Type 0) where
     all_flat f xs p a h = let r = Among_of_flat_map f xs a h in p r.0 r.1 a r.2
 
 -- P holds of all entries of an element, where it holds of those of rel, of property, and of what hangs
-module _ {B O T : Type 0} (P : Entry O T → Type 0) (n : Naming B O) (full : Term B → T) (v : T) (at : Standing B O) (here : Resources B) where
+module _ {B O T : Type 0} (P : ListEntry O T → Type 0) (n : Naming B O) (full : Term B → T) (v : T) (at : Standing B O) (here : Resources B) where
   linked_all : (o : Option (Node B)) → ((object : Node B) (p : Chars) → P (entry (own_owner n at here) (Some (full (Resource object))) p)) → All P (linked n full v at here o)
   linked_all None k = all_none P
   linked_all (Some object) k = all_mapped P (entry (own_owner n at here) (Some (full (Resource object)))) (listed at.facts.rel) (λ p m. k object p)
@@ -45,10 +45,10 @@ module _ {B O T : Type 0} (P : Entry O T → Type 0) (n : Naming B O) (full : Te
   pub entries_all : ((object : Node B) (p : Chars) → P (entry (own_owner n at here) (Some (full (Resource object))) p)) → ((p : Chars) → P (entry (own_owner n at here) None p)) → ((p : Chars) → P (entry (own_owner n at here) (Some v) p))
       → ((h : Hanging O) → Among at.around.hanging h → IfThere P (awaited n full v at here h)) → All P (entries_by n full v at here)
   entries_all of_object of_none of_value of_hanging =
-      let l : List (Entry O T) = linked n full v at here here.object in
-      let t : List (Entry O T) = touched n full v at here in
-      let w : List (Entry O T) = valued n full v at here in
-      let ends : List (Entry O T) = filter_map (awaited n full v at here) at.around.hanging in
+      let l : List (ListEntry O T) = linked n full v at here here.object in
+      let t : List (ListEntry O T) = touched n full v at here in
+      let w : List (ListEntry O T) = valued n full v at here in
+      let ends : List (ListEntry O T) = filter_map (awaited n full v at here) at.around.hanging in
       all_unless P here.skipped (cond at.facts.inlist (l ++ t ++ w) [] ++ ends)
       (all_both P (cond at.facts.inlist (l ++ t ++ w) []) ends
       (all_if P at.facts.inlist (l ++ t ++ w)

@@ -1,6 +1,6 @@
 -- The law of locality.
-use Rattle.rx_rdfa.proofs.Common.{◌≡◌, ◌≢◌, ℕ, suc, ◌≤◌, Bool, true, false, cond, List, [], ◌∷◌, ◌++◌, map, flat_map, length, Option, Some, None, refl, sym, ap, ap₂, ◌∙◌, subst, inl, inr, arith, append-nil, filter-append, Chars, Among, Term, same_node, Among_cases, Among_of_flat_map, false_unless, flat_map-append, split, Nodes, all_text, Path, Owner, First, Of, Below, Bnode, Cell, ModelNode, same_owner, same_bnode, model, Facts, Hanging, Forward, Reverse, InList, Inherited, Resources, Standing, resources, listed, hangs, object_below, own_owner, owner_below, hanging_of, handed, up, inherited, Place, places_from, start, end', standing, in_order_from, Entry, awaited, entries_by, entries_of, entries, of_owner, cells_from, rule, value, end_and_lists, page_lists, lists_below, lists_of}
-use Rattle.rx_rdfa.specs.Tree.{end, element, text}
+use Rattle.rx_rdfa.proofs.Common.{◌≡◌, ◌≢◌, ℕ, suc, ◌≤◌, Bool, true, false, cond, List, [], ◌∷◌, ◌++◌, map, flat_map, length, Option, Some, None, refl, sym, ap, ap₂, ◌∙◌, subst, inl, inr, arith, append-nil, filter-append, Chars, Among, Term, same_node, Among_cases, Among_of_flat_map, false_unless, flat_map-append, split, Nodes, element_text, Path, Owner, First, Of, Below, Bnode, Cell, ModelNode, same_owner, same_bnode, model, Facts, Hanging, Forward, Reverse, InList, Inherited, Resources, Standing, resources, listed, hangs, object_below, own_owner, owner_below, hanging_of, handed, up, inherited, TreePlace, places_from, start, end', standing, in_order_from, ListEntry, awaited, entries_by, entries_of, entries, of_owner, cells_from, rule, value, end_and_lists, page_lists, lists_below, lists_of}
+use Rattle.rx_grammar.specs.Trees.{end, element, text}
 use Rattle.rx_rdfa.specs.Inherited.{below}
 use Rattle.rx_rdfa.specs.Lists.{entries_at, cells}
 use Rattle.rx_rdfa.specs.Local.{ListsAreLocal}
@@ -8,9 +8,9 @@ use Rattle.rx_rdfa.proofs.Exact.{exact_owners}
 use Rattle.rx_rdfa.proofs.Every.{All, IfThere, all_if, all_both, all_mapped, entries_all}
 
 abbrev pub ModelEntry : Type 0
-ModelEntry = Entry Owner (Term Bnode)
+ModelEntry = ListEntry Owner (Term Bnode)
 
-abbrev pub of_model_owner : {T : Type 0} → Owner → List (Entry Owner T) → List (Entry Owner T)
+abbrev pub of_model_owner : {T : Type 0} → Owner → List (ListEntry Owner T) → List (ListEntry Owner T)
 of_model_owner owner list = of_owner same_owner owner list
 
 -- s is r, or the path of an element around that at r
@@ -90,20 +90,20 @@ inherited_under base (facts ∷ above) r = let at : Standing Bnode Owner = recor
 
 -- ---- each entry of an element names an owner around it
 
-pub awaited_under : {T : Type 0} (full : Term Bnode → T) (v : T) (at : Standing Bnode Owner) (here : Resources Bnode) (h : Hanging Owner) → HangingUnder at.path h → IfThere (λ (e : Entry Owner T). OwnerUnder at.path e.owner) (awaited model full v at here h)
+pub awaited_under : {T : Type 0} (full : Term Bnode → T) (v : T) (at : Standing Bnode Owner) (here : Resources Bnode) (h : Hanging Owner) → HangingUnder at.path h → IfThere (λ (e : ListEntry Owner T). OwnerUnder at.path e.owner) (awaited model full v at here h)
 awaited_under full v at here (InList o p) k = k
 awaited_under full v at here (Forward p) k = tt
 awaited_under full v at here _ k = tt
 
-pub by_under : {T : Type 0} (full : Term Bnode → T) (v : T) (at : Standing Bnode Owner) (here : Resources Bnode) → InheritedUnder at.path at.around → All (λ (e : Entry Owner T). OwnerUnder at.path e.owner) (entries_by model full v at here)
+pub by_under : {T : Type 0} (full : Term Bnode → T) (v : T) (at : Standing Bnode Owner) (here : Resources Bnode) → InheritedUnder at.path at.around → All (λ (e : ListEntry Owner T). OwnerUnder at.path e.owner) (entries_by model full v at here)
 by_under {T} full v at here k =
     let own : OwnerUnder at.path (own_owner model at here) = own_under at here k.own in
-    entries_all (λ (e : Entry Owner T). OwnerUnder at.path e.owner) model full v at here (λ object p. own) (λ p. own) (λ p. own) (λ h m. awaited_under full v at here h (k.all h m))
+    entries_all (λ (e : ListEntry Owner T). OwnerUnder at.path e.owner) model full v at here (λ object p. own) (λ p. own) (λ p. own) (λ h m. awaited_under full v at here h (k.all h m))
 
-pub entries_under : (base : Chars) (place : Place) (e : ModelEntry) → Among (entries_of model base place) e → OwnerUnder place.path e.owner
+pub entries_under : (base : Chars) (place : TreePlace) (e : ModelEntry) → Among (entries_of model base place) e → OwnerUnder place.path e.owner
 unfolding entries_at
 entries_under base place e m = let at : Standing Bnode Owner = standing model base place in
-    by_under (λ v. v) (value (rule model base at.facts (resources model base at)) at.facts (all_text place.inside)) at (resources model base at) (inherited_up place.path at.around (inherited_under base place.above (up place.path))) e m
+    by_under (λ v. v) (value (rule model base at.facts (resources model base at)) at.facts (element_text place.inside)) at (resources model base at) (inherited_up place.path at.around (inherited_under base place.above (up place.path))) e m
 
 -- ---- where the places are
 
@@ -123,10 +123,10 @@ inside_up path i r k = record { j = i; from = omega arith; at = under_trans (inn
 pub inside_less : (path : Path) (i : ℕ) (r : Path) → Inside path (suc i) r → Inside path i r
 inside_less path i r k = record { j = k.j; from = omega (arith, k.from); at = k.at }
 
-pub places_inside : (above : List Facts) (path : Path) (i : ℕ) (nodes : Nodes Facts) (p : Place) → Among (places_from above path i nodes) p → Inside path i p.path
+pub places_inside : (above : List Facts) (path : Path) (i : ℕ) (nodes : Nodes Facts) (p : TreePlace) → Among (places_from above path i nodes) p → Inside path i p.path
 places_inside above path i end p m = absurd m
 places_inside above path i (text s rest) p m = places_inside above path i rest p m
-places_inside above path i (element facts inside rest) p (inl e) = subst (λ (x : Place). Inside path i x.path) e (record { j = i; from = omega arith; at = itself })
+places_inside above path i (element facts inside rest) p (inl e) = subst (λ (x : TreePlace). Inside path i x.path) e (record { j = i; from = omega arith; at = itself })
 places_inside above path i (element facts inside rest) p (inr m) = elim (Among_cases (places_from (facts ∷ above) (i ∷ path) 0 inside) (places_from above path (suc i) rest) p m) [
   | inl l ↦ inside_up path i p.path (places_inside (facts ∷ above) (i ∷ path) 0 inside p l)
   | inr l ↦ inside_less path i p.path (places_inside above path (suc i) rest p l)
@@ -188,7 +188,7 @@ pub free_of : (P : Path → Type 0) (xs : List ModelEntry) → All (λ (e : Mode
 unfolding Free
 free_of P xs k o s = nothing_of o xs (λ e m q. let r = k e m in not_under P r.0 r.2 o s (subst (OwnerUnder r.0) q r.1))
 
-unfoldable pub within : (Place → List ModelEntry) → Place → List ModelEntry
+unfoldable pub within : (TreePlace → List ModelEntry) → TreePlace → List ModelEntry
 within f p = f p ++ flat_map f (places_from (p.facts ∷ p.above) p.path 0 p.inside)
 
 -- of three lists two are empty, or the last is
@@ -203,15 +203,15 @@ but_last a b c q = rw q (ap (λ z. a ++ z) (append-nil b))
 
 -- ---- the law, where each place has entries of owners around it
 
-module _ (f : Place → List ModelEntry) (under : (p : Place) (e : ModelEntry) → Among (f p) e → OwnerUnder p.path e.owner) where
-  pub free_places : (P : Path → Type 0) (ps : List Place) → ((p : Place) → Among ps p → (s : Path) → P s → ¬ (Under s p.path)) → Free P (flat_map f ps)
+module _ (f : TreePlace → List ModelEntry) (under : (p : TreePlace) (e : ModelEntry) → Among (f p) e → OwnerUnder p.path e.owner) where
+  pub free_places : (P : Path → Type 0) (ps : List TreePlace) → ((p : TreePlace) → Among ps p → (s : Path) → P s → ¬ (Under s p.path)) → Free P (flat_map f ps)
   free_places P ps k = free_of P (flat_map f ps) (λ e m. let r = Among_of_flat_map f ps e m in (r.0.path, under r.0 e r.2, k r.0 r.1))
 
   -- the entries of element i are of no owner inside it, nor after it
-  pub own_free_inside : (p : Place) → Free (Inside p.path 0) (f p)
+  pub own_free_inside : (p : TreePlace) → Free (Inside p.path 0) (f p)
   own_free_inside p = free_of (Inside p.path 0) (f p) (λ e m. (p.path, under p e m, λ s k u. absurd (omega (arith, under_length k.at, under_length u))))
 
-  pub own_free_after : (p : Place) (i : ℕ) (path : Path) → p.path ≡ i ∷ path → Free (Inside path (suc i)) (f p)
+  pub own_free_after : (p : TreePlace) (i : ℕ) (path : Path) → p.path ≡ i ∷ path → Free (Inside path (suc i)) (f p)
   own_free_after p i path q = free_of (Inside path (suc i)) (f p) (λ e m. (p.path, under p e m, λ s k u. let e : k.j ≡ i = clash (under_trans k.at (subst (Under s) q u)) itself in absurd (omega (arith, k.from))))
 
   pub inner_free_after : (above : List Facts) (path : Path) (i : ℕ) (inside : Nodes Facts) → Free (Inside path (suc i)) (flat_map f (places_from above (i ∷ path) 0 inside))
@@ -224,8 +224,8 @@ module _ (f : Place → List ModelEntry) (under : (p : Place) (e : ModelEntry) �
   later_free above path i rest = free_places (Under (i ∷ path)) (places_from above path (suc i) rest)
       (λ p m s k u. let w = places_inside above path (suc i) rest p m in let e : i ≡ w.j = clash (under_trans k u) w.at in absurd (omega (arith, w.from)))
 
-  module _ {A : Type 0} (front : Place → List A) (back : List ModelEntry → Place → List A)
-      (alike : (p : Place) (xs ys : List ModelEntry) → ((o : Owner) → StandsIn (Under p.path) o → of_model_owner o xs ≡ of_model_owner o ys) → back xs p ≡ back ys p) (E : List ModelEntry) where
+  module _ {A : Type 0} (front : TreePlace → List A) (back : List ModelEntry → TreePlace → List A)
+      (alike : (p : TreePlace) (xs ys : List ModelEntry) → ((o : Owner) → StandsIn (Under p.path) o → of_model_owner o xs ≡ of_model_owner o ys) → back xs p ≡ back ys p) (E : List ModelEntry) where
     -- the parts of some nodes are the same where an owner inside them has no other entries
     pub local_from : (above : List Facts) (path : Path) (i : ℕ) (nodes : Nodes Facts) → ((o : Owner) → StandsIn (Inside path i) o → of_model_owner o E ≡ of_model_owner o (flat_map f (places_from above path i nodes)))
         → in_order_from front (back E) above path i nodes ≡ in_order_from front (λ p. back (within f p) p) above path i nodes
@@ -233,9 +233,9 @@ module _ (f : Place → List ModelEntry) (under : (p : Place) (e : ModelEntry) �
     local_from above path i end q = refl
     local_from above path i (text s rest) q = local_from above path i rest q
     local_from above path i (element facts inside rest) q =
-        let p : Place = record { above = above; facts = facts; path = i ∷ path; inside = inside } in
-        let ps : List Place = places_from (facts ∷ above) (i ∷ path) 0 inside in
-        let qs : List Place = places_from above path (suc i) rest in
+        let p : TreePlace = record { above = above; facts = facts; path = i ∷ path; inside = inside } in
+        let ps : List TreePlace = places_from (facts ∷ above) (i ∷ path) 0 inside in
+        let qs : List TreePlace = places_from above path (suc i) rest in
         let of : Owner → List ModelEntry → List ModelEntry = of_model_owner in
         let I : List ModelEntry = flat_map f ps in
         let N : List ModelEntry = flat_map f qs in
@@ -266,7 +266,7 @@ pub lists_alike : (base : Chars) (at : Standing Bnode Owner) (xs ys : List Model
 lists_alike base at xs ys e =
     ap₂ ◌++◌ (cells_by_owner (Below at.path) (below model base at).object xs ys (e (Below at.path) itself)) (cells_by_owner (Of at.path) (resources model base at).subject xs ys (e (Of at.path) itself))
 
-pub ends_alike : (base : Chars) (p : Place) (xs ys : List ModelEntry) → ((o : Owner) → StandsIn (Under p.path) o → of_model_owner o xs ≡ of_model_owner o ys) → end_and_lists model base xs p ≡ end_and_lists model base ys p
+pub ends_alike : (base : Chars) (p : TreePlace) (xs ys : List ModelEntry) → ((o : Owner) → StandsIn (Under p.path) o → of_model_owner o xs ≡ of_model_owner o ys) → end_and_lists model base xs p ≡ end_and_lists model base ys p
 ends_alike base p xs ys e = ap (λ z. end' model base p ++ z) (lists_alike base (standing model base p) xs ys e)
 
 pub lists_are_local : ListsAreLocal

@@ -1,6 +1,6 @@
 -- The law of reading.
-use Rattle.rx_rdfa.proofs.Common.{cons_option, map-append, filter_map-append, Chars, Among, Term, Resource, Among_of_filter_map, false_unless, exact_texts, flat_map-append, ◌≡◌, ◌≢◌, ℕ, suc, cond, List, [], ◌∷◌, ◌++◌, length, map, flat_map, filter_map, Option, Some, None, option_map, refl, sym, ap, ap₂, ◌∙◌, subst, arith, append_assoc, append-nil, bytes_eq, unwrap_or, Nodes, all_text, Path, Owner, Bnode, ModelNode, ModelTriple, model, Facts, Hanging, Forward, Reverse, InList, Inherited, Resources, Standing, resources, listed, hangs, own_owner, up, inherited, value_now, value_of_text, Place, places_from, start, end_of, standing, in_order_from, in_order, map_entry, Entry, entry, linked, touched, valued, awaited, entries_by, entries_of, entries, lists_of, lists_below, page_lists, Slot, Full, Machine, inherit, slot_of, rule_at, fill_slot, fill, settled_item, settled_with, settled, settle, entered, number, leave, finished, ReadingMakes}
-use Rattle.rx_rdfa.specs.Tree.{end, element, text}
+use Rattle.rx_rdfa.proofs.Common.{cons_option, map-append, filter_map-append, Chars, Among, Term, Resource, Among_of_filter_map, false_unless, exact_texts, flat_map-append, ◌≡◌, ◌≢◌, ℕ, suc, cond, List, [], ◌∷◌, ◌++◌, length, map, flat_map, filter_map, Option, Some, None, option_map, refl, sym, ap, ap₂, ◌∙◌, subst, arith, append_assoc, append-nil, bytes_eq, unwrap_or, Nodes, element_text, Path, Owner, Bnode, ModelNode, ModelTriple, model, Facts, Hanging, Forward, Reverse, InList, Inherited, Resources, Standing, resources, listed, hangs, own_owner, up, inherited, value_now, value_of_text, TreePlace, places_from, start, end_of, standing, in_order_from, in_order, map_entry, ListEntry, entry, linked, touched, valued, awaited, entries_by, entries_of, entries, lists_of, lists_below, page_lists, Slot, Full, Machine, inherit, slot_of, rule_at, fill_slot, fill, settled_item, settled_with, settled, settle, entered, number, leave, finished, ReadingMakes}
+use Rattle.rx_grammar.specs.Trees.{end, element, text}
 use Rattle.rx_rdfa.specs.Lists.{entries_at}
 use Rattle.rx_rdfa.specs.Local.{local_end}
 use Rattle.rx_rdfa.specs.Machine.{value_at, reserved, run}
@@ -9,10 +9,10 @@ use Rattle.rx_rdfa.proofs.Sent.{map_cond_nil, map_unless, map_both, map_each}
 
 -- ---- slots
 
-abbrev full_entry : ModelEntry → Entry Owner (Slot Bnode)
+abbrev full_entry : ModelEntry → ListEntry Owner (Slot Bnode)
 full_entry = map_entry Full
 
-fill-append : (r : Path) (v : Term Bnode) (xs ys : List (Entry Owner (Slot Bnode))) → fill r v (xs ++ ys) ≡ fill r v xs ++ fill r v ys
+fill-append : (r : Path) (v : Term Bnode) (xs ys : List (ListEntry Owner (Slot Bnode))) → fill r v (xs ++ ys) ≡ fill r v xs ++ fill r v ys
 fill-append r v xs ys = map-append (map_entry (fill_slot r v)) xs ys
 
 full_stays : (r : Path) (v : Term Bnode) (o : Owner) (p : Chars) (item : Option (Term Bnode)) → map_entry (fill_slot r v) (map_entry Full (entry o item p)) ≡ map_entry Full (entry o item p)
@@ -30,10 +30,10 @@ settle_full : (xs : List ModelEntry) → settle (map full_entry xs) ≡ xs
 settle_full [] = refl
 settle_full (x ∷ xs) = ap₂ cons_option (settled_full x.owner x.predicate x.item) (settle_full xs)
 
-settle-append : (xs ys : List (Entry Owner (Slot Bnode))) → settle (xs ++ ys) ≡ settle xs ++ settle ys
+settle-append : (xs ys : List (ListEntry Owner (Slot Bnode))) → settle (xs ++ ys) ≡ settle xs ++ settle ys
 settle-append xs ys = filter_map-append settled xs ys
 
-owner_of_settled : (x : Entry Owner (Slot Bnode)) (o : Option (Option (Term Bnode))) (e : ModelEntry) → settled_with x o ≡ Some e → x.owner ≡ e.owner
+owner_of_settled : (x : ListEntry Owner (Slot Bnode)) (o : Option (Option (Term Bnode))) (e : ModelEntry) → settled_with x o ≡ Some e → x.owner ≡ e.owner
 owner_of_settled x None e q = cc
 owner_of_settled x (Some item) e q = let k : entry x.owner item x.predicate ≡ e = cc in ap (λ (e : ModelEntry). e.owner) k
 
@@ -117,22 +117,22 @@ next_after i end = i
 next_after i (element facts inside rest) = next_after (suc i) rest
 next_after i (text chars rest) = next_after i rest
 
-abbrev state : List (Standing Bnode Owner) → Path → ℕ → List Chars → List (Entry Owner (Slot Bnode)) → List ModelTriple → Machine Bnode Owner
+abbrev state : List (Standing Bnode Owner) → Path → ℕ → List Chars → List (ListEntry Owner (Slot Bnode)) → List ModelTriple → Machine Bnode Owner
 state standings path next texts slots out = record { standings = standings; path = path; next = next; texts = texts; slots = slots; out = out }
 
 -- where P holds no owner stands that has an entry, and no slot waits for the element there
-record Ready (P : Path → Type 0) (slots : List (Entry Owner (Slot Bnode))) : Type 0 where
+record Ready (P : Path → Type 0) (slots : List (ListEntry Owner (Slot Bnode))) : Type 0 where
   free : Free P (settle slots)
   still : (r : Path) → P r → (v : Term Bnode) → fill r v slots ≡ slots
 
-ready_fewer : (P Q : Path → Type 0) → ((s : Path) → P s → Q s) → (slots : List (Entry Owner (Slot Bnode))) → Ready Q slots → Ready P slots
+ready_fewer : (P Q : Path → Type 0) → ((s : Path) → P s → Q s) → (slots : List (ListEntry Owner (Slot Bnode))) → Ready Q slots → Ready P slots
 ready_fewer P Q f slots h = record { free = free_fewer P Q f (settle slots) h.free; still = λ r w v. h.still r (f r w) v }
 
 in_row : {A : Type 0} (a b c d e : List A) → (((a ++ b) ++ c) ++ d) ++ e ≡ a ++ (b ++ (c ++ (d ++ e)))
 in_row a b c d e = simp append_assoc
 
 module _ (base : Chars) where
-  f : Place → List ModelEntry
+  f : TreePlace → List ModelEntry
   f = entries_of model base
 
   ents : List Facts → Path → ℕ → Nodes Facts → List ModelEntry
@@ -145,7 +145,7 @@ module _ (base : Chars) where
   only_new o L M e = of_owner_append o L M ∙ ap (λ z. z ++ of_model_owner o M) e
 
   -- the slots of an element that is left
-  slots_left : (at : Standing Bnode Owner) (chars : Chars) (slots : List (Entry Owner (Slot Bnode))) (I : List ModelEntry) → fill at.path (value_at model base at chars) slots ≡ slots
+  slots_left : (at : Standing Bnode Owner) (chars : Chars) (slots : List (ListEntry Owner (Slot Bnode))) (I : List ModelEntry) → fill at.path (value_at model base at chars) slots ≡ slots
       → fill at.path (value_at model base at chars) ((slots ++ reserved model base at) ++ map full_entry I) ≡ slots ++ map full_entry (entries_at model base at chars ++ I)
   slots_left at chars slots I e =
       let v : Term Bnode = value_at model base at chars in
@@ -154,10 +154,10 @@ module _ (base : Chars) where
       ∙ append_assoc slots (map full_entry (entries_at model base at chars)) (map full_entry I)
       ∙ ap (λ z. slots ++ z) (sym (map-append full_entry (entries_at model base at chars) I))
 
-  settle_left : (slots : List (Entry Owner (Slot Bnode))) (M : List ModelEntry) → settle (slots ++ map full_entry M) ≡ settle slots ++ M
+  settle_left : (slots : List (ListEntry Owner (Slot Bnode))) (M : List ModelEntry) → settle (slots ++ map full_entry M) ≡ settle slots ++ M
   settle_left slots M = settle-append slots (map full_entry M) ∙ ap (λ z. settle slots ++ z) (settle_full M)
 
-  leave_is : (at : Standing Bnode Owner) (chars : Chars) (n : ℕ) (standings : List (Standing Bnode Owner)) (texts : List Chars) (slots : List (Entry Owner (Slot Bnode))) (out : List ModelTriple) (I : List ModelEntry)
+  leave_is : (at : Standing Bnode Owner) (chars : Chars) (n : ℕ) (standings : List (Standing Bnode Owner)) (texts : List Chars) (slots : List (ListEntry Owner (Slot Bnode))) (out : List ModelTriple) (I : List ModelEntry)
       → Ready (Under at.path) slots
       → leave model base (state (at ∷ standings) at.path n (chars ∷ texts) ((slots ++ reserved model base at) ++ map full_entry I) out)
       ≡ state standings (up at.path) (suc (number at.path)) texts (slots ++ map full_entry (entries_at model base at chars ++ I)) (out ++ (end_of model base at chars ++ (lists_below model base (entries_at model base at chars ++ I) at ++ lists_of model base (entries_at model base at chars ++ I) at)))
@@ -170,40 +170,40 @@ module _ (base : Chars) where
       (lists_alike base at (settle (slots ++ map full_entry M)) M (λ o w. ap (of_model_owner o) s ∙ only_new o (settle slots) M (h.free o w)))
 
   -- the slots while the inside of an element is read, and after it is left
-  ready_in : (at : Standing Bnode Owner) (slots : List (Entry Owner (Slot Bnode))) → InheritedUnder at.path at.around → Ready (Under at.path) slots → Ready (Inside at.path 0) (slots ++ reserved model base at)
+  ready_in : (at : Standing Bnode Owner) (slots : List (ListEntry Owner (Slot Bnode))) → InheritedUnder at.path at.around → Ready (Under at.path) slots → Ready (Inside at.path 0) (slots ++ reserved model base at)
   ready_in at slots k h = let g = ready_fewer (Inside at.path 0) (Under at.path) (inside_under at.path) slots h in record {
     free = subst (Free (Inside at.path 0)) (sym (settle-append slots (reserved model base at))) (free_append (Inside at.path 0) (settle slots) (settle (reserved model base at)) g.free (reserved_free base at k));
     still = λ r w v. fill-append r v slots (reserved model base at) ∙ ap₂ ◌++◌ (g.still r w v) (reserved_stays base at r v (λ e. absurd (omega (arith, under_length w.at, ap length e))));
   }
 
-  ready_after : (path : Path) (i : ℕ) (slots : List (Entry Owner (Slot Bnode))) (M : List ModelEntry) → Free (Inside path (suc i)) M → Ready (Inside path i) slots → Ready (Inside path (suc i)) (slots ++ map full_entry M)
+  ready_after : (path : Path) (i : ℕ) (slots : List (ListEntry Owner (Slot Bnode))) (M : List ModelEntry) → Free (Inside path (suc i)) M → Ready (Inside path i) slots → Ready (Inside path (suc i)) (slots ++ map full_entry M)
   ready_after path i slots M m h = let g = ready_fewer (Inside path (suc i)) (Inside path i) (inside_less path i) slots h in record {
     free = subst (Free (Inside path (suc i))) (sym (settle_left slots M)) (free_append (Inside path (suc i)) (settle slots) M g.free m);
     still = λ r w v. fill-append r v slots (map full_entry M) ∙ ap₂ ◌++◌ (g.still r w v) (fill_full r v M);
   }
 
-  slots_in_row : (ps qs : List Place) (p : Place) (slots : List (Entry Owner (Slot Bnode))) → (slots ++ map full_entry (f p ++ flat_map f ps)) ++ map full_entry (flat_map f qs) ≡ slots ++ map full_entry (flat_map f (p ∷ (ps ++ qs)))
+  slots_in_row : (ps qs : List TreePlace) (p : TreePlace) (slots : List (ListEntry Owner (Slot Bnode))) → (slots ++ map full_entry (f p ++ flat_map f ps)) ++ map full_entry (flat_map f qs) ≡ slots ++ map full_entry (flat_map f (p ∷ (ps ++ qs)))
   slots_in_row ps qs p slots = append_assoc slots (map full_entry (f p ++ flat_map f ps)) (map full_entry (flat_map f qs))
       ∙ ap (λ z. slots ++ z) (sym (map-append full_entry (f p ++ flat_map f ps) (flat_map f qs)) ∙ ap (map full_entry) (append_assoc (f p) (flat_map f ps) (flat_map f qs) ∙ ap (λ z. f p ++ z) (sym (flat_map-append f ps qs))))
 
-  run_is : (above : List Facts) (path : Path) (i : ℕ) (nodes : Nodes Facts) (standings : List (Standing Bnode Owner)) (texts : List Chars) (slots : List (Entry Owner (Slot Bnode))) (out : List ModelTriple)
+  run_is : (above : List Facts) (path : Path) (i : ℕ) (nodes : Nodes Facts) (standings : List (Standing Bnode Owner)) (texts : List Chars) (slots : List (ListEntry Owner (Slot Bnode))) (out : List ModelTriple)
       → inherit model base standings ≡ inherited model base above path → Ready (Inside path i) slots
       → run model base nodes (state standings path i texts slots out)
-      ≡ state standings path (next_after i nodes) (map (λ t. t ++ all_text nodes) texts) (slots ++ map full_entry (ents above path i nodes)) (out ++ gives above path i nodes)
+      ≡ state standings path (next_after i nodes) (map (λ t. t ++ element_text nodes) texts) (slots ++ map full_entry (ents above path i nodes)) (out ++ gives above path i nodes)
   unfolding run ents gives f
   run_is above path i end standings texts slots out h ready = λ k. state standings path i (read_nothing texts k) (sym (append-nil slots) k) (sym (append-nil out) k)
   run_is above path i (text chars rest) standings texts slots out h ready =
       run_is above path i rest standings (map (λ t. t ++ chars) texts) slots out h ready
-      ∙ ap (λ z. state standings path (next_after i rest) z (slots ++ map full_entry (ents above path i rest)) (out ++ gives above path i rest)) (read_read chars (all_text rest) texts)
+      ∙ ap (λ z. state standings path (next_after i rest) z (slots ++ map full_entry (ents above path i rest)) (out ++ gives above path i rest)) (read_read chars (element_text rest) texts)
   run_is above path i (element facts inside rest) standings texts slots out h ready =
-      let p : Place = record { above = above; facts = facts; path = i ∷ path; inside = inside } in
+      let p : TreePlace = record { above = above; facts = facts; path = i ∷ path; inside = inside } in
       let at : Standing Bnode Owner = standing model base p in
-      let T : Chars = all_text inside in
+      let T : Chars = element_text inside in
       let I : List ModelEntry = ents (facts ∷ above) (i ∷ path) 0 inside in
       let N : List ModelEntry = ents above path (suc i) rest in
       let texts' : List Chars = map (λ t. t ++ T) texts in
       let out' : List ModelTriple = (out ++ start model base p) ++ gives (facts ∷ above) (i ∷ path) 0 inside in
-      let slots' : List (Entry Owner (Slot Bnode)) = slots ++ map full_entry (f p ++ I) in
+      let slots' : List (ListEntry Owner (Slot Bnode)) = slots ++ map full_entry (f p ++ I) in
       let ready' : Ready (Under (i ∷ path)) slots = ready_fewer (Under (i ∷ path)) (Inside path i) (inside_at path i) slots ready in
       -- what is inherited
       ap (λ (z : Inherited Bnode Owner). run model base rest (leave model base (run model base inside (entered model base (record { facts = facts; path = i ∷ path; around = z }) (state standings path i texts slots out))))) h
@@ -217,7 +217,7 @@ module _ (base : Chars) where
       -- what follows
       ∙ run_is above path (suc i) rest standings texts' slots' (out' ++ local_end model base p) h (ready_after path i slots (f p ++ I)
       (free_append (Inside path (suc i)) (f p) I (own_free_after f (entries_under base) p i path refl) (inner_free_after f (entries_under base) (facts ∷ above) path i inside)) ready)
-      ∙ (λ k. state standings path (next_after (suc i) rest) (read_read T (all_text rest) texts k) (slots_in_row (places_from (facts ∷ above) (i ∷ path) 0 inside) (places_from above path (suc i) rest) p slots k) (in_row out (start model base p) (gives (facts ∷ above) (i ∷ path) 0 inside) (local_end model base p) (gives above path (suc i) rest) k))
+      ∙ (λ k. state standings path (next_after (suc i) rest) (read_read T (element_text rest) texts k) (slots_in_row (places_from (facts ∷ above) (i ∷ path) 0 inside) (places_from above path (suc i) rest) p slots k) (in_row out (start model base p) (gives (facts ∷ above) (i ∷ path) 0 inside) (local_end model base p) (gives above path (suc i) rest) k))
 
 pub reading_makes : ReadingMakes
 unfolding ents gives f Free

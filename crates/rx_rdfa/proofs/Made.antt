@@ -1,8 +1,8 @@
 -- The law of the list of a tree.
 use Rattle.rx_rdfa.specs.Common.{Path, Naming, model, Nodes, Facts}
 use Rattle.rx_model.proofs.Common.{◌≡◌, ◌⊎◌, ◌↔◌, ℕ, suc, List, [], ◌∷◌, ◌++◌, flat_map, sym, ap, ◌∙◌, subst, inl, inr, append_assoc, Chars, flat_map-append, Among, Triple, Among_left, Among_right, Among_cases, Among_flat_map, Among_of_flat_map}
-use Rattle.rx_rdfa.specs.Tree.{end, element, text}
-use Rattle.rx_rdfa.specs.Element.{Place, places, places_from, standing, start, end', in_order_from, in_order}
+use Rattle.rx_grammar.specs.Trees.{end, element, text}
+use Rattle.rx_rdfa.specs.Element.{TreePlace, places, places_from, standing, start, end', in_order_from, in_order}
 use Rattle.rx_rdfa.specs.Lists.{entries}
 use Rattle.rx_rdfa.specs.Made.{raw, made, MadeIsRaw, lists_of, lists_below, page_lists, end_and_lists}
 
@@ -34,8 +34,8 @@ turned_back f g (inr (inl h)) = inr (inr (inl h))
 turned_back f g (inr (inr (inl h))) = inr (inl (f h))
 turned_back f g (inr (inr (inr h))) = inr (inr (inr (g h)))
 
-module _ {A : Type 0} (front back : Place → List A) (t : A) where
-  sides : Place → List A
+module _ {A : Type 0} (front back : TreePlace → List A) (t : A) where
+  sides : TreePlace → List A
   sides p = front p ++ back p
 
   -- in order, and place by place, the same are given
@@ -44,9 +44,9 @@ module _ {A : Type 0} (front back : Place → List A) (t : A) where
   in_places above path i end = (λ h. h, λ h. h)
   in_places above path i (text s rest) = in_places above path i rest
   in_places above path i (element facts inside rest) =
-      let p : Place = record { above = above; facts = facts; path = i ∷ path; inside = inside } in
-      let ps : List Place = places_from (facts ∷ above) (i ∷ path) 0 inside in
-      let qs : List Place = places_from above path (suc i) rest in
+      let p : TreePlace = record { above = above; facts = facts; path = i ∷ path; inside = inside } in
+      let ps : List TreePlace = places_from (facts ∷ above) (i ∷ path) 0 inside in
+      let qs : List TreePlace = places_from above path (suc i) rest in
       let P : List A = flat_map sides ps in
       let Q : List A = flat_map sides qs in
       let inner : List A = in_order_from front back (facts ∷ above) (i ∷ path) 0 inside in
@@ -64,7 +64,7 @@ module _ {B O : Type 0} (n : Naming B O) (base : Chars) (tree : Nodes Facts) (t 
   unfolding sides
   to_raw h =
       let all = entries n base tree in
-      let back : Place → List (Triple B) = end_and_lists n base all in
+      let back : TreePlace → List (Triple B) = end_and_lists n base all in
       elim (Among_cases (in_order (start n base) back tree) (page_lists n base all) t h) [
         | inl k ↦ (let r = Among_of_flat_map (sides (start n base) back t) (places tree) t ((in_places (start n base) back t [] [] 0 tree).0 k) in
             let at = standing n base r.0 in
@@ -76,7 +76,7 @@ module _ {B O : Type 0} (n : Naming B O) (base : Chars) (tree : Nodes Facts) (t 
   unfolding sides
   of_raw (inl r) =
       let all = entries n base tree in
-      let back : Place → List (Triple B) = end_and_lists n base all in
+      let back : TreePlace → List (Triple B) = end_and_lists n base all in
       let at = standing n base r.0 in
       Among_left (in_order (start n base) back tree) (page_lists n base all) t ((in_places (start n base) back t [] [] 0 tree).1
       (Among_flat_map (sides (start n base) back t) (places tree) r.0 t r.1 ((four (start n base r.0) (end' n base r.0) (lists_below n base all at) (lists_of n base all at) t).1 r.2)))

@@ -1,12 +1,13 @@
 -- No literal that the rules make is typed xsd:string.
-use Rattle.rx_rdfa.proofs.Common.{◌≡◌, ◌≢◌, ℕ, suc, Bool, true, false, cond, List, [], ◌∷◌, ◌++◌, map, filter, flat_map, filter_map, Option, Some, None, refl, sym, ◌∙◌, inl, inr, true≢false, bytes_eq, option_map, option_or, Chars, distinct, Plain, Typed, Node, Iri, Blank, Term, Resource, Literal, Triple, same_node, same_triple, spo, live, edges, says_pattern, treated, is_referenced, copied, leads, given, replaced, rename_term, rename, blanks, place_in, numbered, exact_texts, Among_of_filter, Among_of_distinct, rdf_type, rdf_first, rdf_rest, unwrap_or, not, ◌&&◌, codes, option_to_list, is_none, split, xsd_string, ◌andThen◌, follows, is_zone, after_char, after_year, after_month, after_date, after_clock, is_duration, Naming, same_bnode, model, Nodes, all_text, Facts, Datatype, Empty, Is, Ref, Hanging, Forward, Resources, Standing, resources, resource_named, listed, below, kind_by_lang, plain_literal, time_literal_by, time_literal, Rule, ByDatatype, ByContent, ByDatetime, ByTimeText, literal_by, rule, value_now, value_of_text, value, places, to_node, standing, of_vocabulary, types_by, links_by, properties_by, completed, text_value, Entry, awaited, entries_of, entries, of_owner, lists, items, cell_or_nil, chain, list_of, raw, made}
+use Rattle.rx_rdfa.proofs.Common.{◌≡◌, ◌≢◌, ℕ, suc, Bool, true, false, cond, List, [], ◌∷◌, ◌++◌, map, filter, flat_map, filter_map, Option, Some, None, refl, sym, ◌∙◌, inl, inr, true≢false, bytes_eq, option_map, option_or, Chars, distinct, Plain, Typed, Node, Iri, Blank, Term, Resource, Literal, Triple, same_node, same_triple, spo, live, edges, says_pattern, treated, is_referenced, copied, leads, given, replaced, rename_term, rename, blanks, place_in, numbered, exact_texts, Among_of_filter, Among_of_distinct, rdf_type, rdf_first, rdf_rest, unwrap_or, not, ◌&&◌, codes, option_to_list, is_none, split, xsd_string, ◌andThen◌, follows, is_zone, after_char, after_year, after_month, after_date, after_clock, is_duration, Naming, same_bnode, model, Nodes, element_text, Facts, Datatype, Empty, Is, Ref, Hanging, Forward, Resources, Standing, resources, resource_named, listed, below, kind_by_lang, plain_literal, time_literal_by, time_literal, Rule, ByDatatype, ByContent, ByDatetime, ByTimeText, literal_by, rule, value_now, value_of_text, value, places, to_node, standing, of_vocabulary, types_by, links_by, properties_by, completed, text_value, ListEntry, awaited, entries_of, entries, of_owner, lists, items, cell_or_nil, chain, list_of, raw, made}
 use Rattle.rx_rdfa.specs.Common.{xsd, uses_vocabulary}
 use Rattle.rx_rdfa.specs.Times.{time_kind}
 use Rattle.rx_rdfa.specs.Element.{start_of, end_of}
 use Rattle.rx_rdfa.specs.Lists.{entries_at, cells}
-use Rattle.rx_rdfa.specs.Proper.{IsProper, LiteralsAreProper}
+use Rattle.rx_rdfa.specs.Proper.{LiteralsAreProper}
 use Rattle.rx_rdfa.proofs.Made.{made_is_raw}
 use Rattle.rx_rdfa.proofs.Every.{All, IfThere, all_none, all_more, all_both, all_unless, all_mapped, all_kept, all_flat, entries_all}
+use Rattle.rx_model.specs.Terms.{IsProper}
 
 -- ---- values
 
@@ -110,20 +111,20 @@ module _ {B : Type 0} where
 
   module _ {O : Type 0} where
     -- the entry's item is proper, if it has one
-    abbrev HasProperItem : Entry O (Term B) → Type 0
+    abbrev HasProperItem : ListEntry O (Term B) → Type 0
     HasProperItem e = IfThere IsTerm e.item
 
     -- an owner's items, and the triples of its lists
-    items_proper : (p : Chars) (own : List (Entry O (Term B))) → All HasProperItem own → All IsTerm (items p own)
+    items_proper : (p : Chars) (own : List (ListEntry O (Term B))) → All HasProperItem own → All IsTerm (items p own)
     items_proper p own h =
-        let here : Entry O (Term B) → Bool = λ e. bytes_eq e.predicate p in
-        all_kept IsTerm (λ (e : Entry O (Term B)). e.item) (filter here own) (λ e m. h e (Among_of_filter here own e m).0)
+        let here : ListEntry O (Term B) → Bool = λ e. bytes_eq e.predicate p in
+        all_kept IsTerm (λ (e : ListEntry O (Term B)). e.item) (filter here own) (λ e m. h e (Among_of_filter here own e m).0)
 
-    cells_proper : (n : Naming B O) (all : List (Entry O (Term B))) (owner : O) (subject : Node B) → All HasProperItem all → All HasProper (cells n all owner subject)
+    cells_proper : (n : Naming B O) (all : List (ListEntry O (Term B))) (owner : O) (subject : Node B) → All HasProperItem all → All HasProper (cells n all owner subject)
     unfolding cells
     cells_proper n all owner subject h =
-        let mine : Entry O (Term B) → Bool = λ e. n.same_owner e.owner owner in
-        let own : List (Entry O (Term B)) = of_owner n.same_owner owner all in
+        let mine : ListEntry O (Term B) → Bool = λ e. n.same_owner e.owner owner in
+        let own : List (ListEntry O (Term B)) = of_owner n.same_owner owner all in
         all_flat HasProper (λ (p : Chars). list_of (n.cell owner p) subject p (items p own)) (lists own)
         (λ p m. list_proper (n.cell owner p) subject p (items p own) (items_proper p own (λ e k. h e (Among_of_filter mine all e k).0)))
 
@@ -203,12 +204,12 @@ module _ {B O : Type 0} (n : Naming B O) (base : Chars) (at : Standing B O) wher
 
 module _ {B O : Type 0} (n : Naming B O) (base : Chars) (tree : Nodes Facts) where
   entries_proper : All HasProperItem (entries n base tree)
-  entries_proper = all_flat HasProperItem (entries_of n base) (places tree) (λ place m. entries_at_proper n base (standing n base place) (all_text place.inside))
+  entries_proper = all_flat HasProperItem (entries_of n base) (places tree) (λ place m. entries_at_proper n base (standing n base place) (element_text place.inside))
 
   -- the objects of the rules' set
   raw_proper : (t : Triple B) → raw n base tree t → HasProper t
   raw_proper t (inl (place, m, inl h)) = start_proper n base (standing n base place) t h
-  raw_proper t (inl (place, m, inr (inl h))) = end_proper n base (standing n base place) (all_text place.inside) t h
+  raw_proper t (inl (place, m, inr (inl h))) = end_proper n base (standing n base place) (element_text place.inside) t h
   raw_proper t (inl (place, m, inr (inr (inl h)))) = cells_proper n (entries n base tree) (n.below place.path) (below n base (standing n base place)).object entries_proper t h
   raw_proper t (inl (place, m, inr (inr (inr h)))) = cells_proper n (entries n base tree) (n.of place.path) (resources n base (standing n base place)).subject entries_proper t h
   raw_proper t (inr h) = cells_proper n (entries n base tree) n.first (Iri base) entries_proper t h

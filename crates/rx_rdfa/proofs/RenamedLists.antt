@@ -1,5 +1,5 @@
 -- Renaming goes through the entries of an element, and the lists of an owner.
-use Rattle.rx_rdfa.proofs.Common.{◌≡◌, ℕ, suc, Bool, cond, List, [], ◌∷◌, ◌++◌, map, filter, flat_map, filter_map, Option, Some, None, option_map, refl, sym, ap, ◌∙◌, bytes_eq, Chars, Among, distinct, spo, Node, Blank, Term, Resource, rename_node, rename_term, rename, rdf_first, rdf_rest, Naming, Hanging, Forward, InList, Standing, Resources, resources, listed, hangs, own_owner, rule, value, to_node, Entry, entry, linked, touched, valued, awaited, entries_by, of_owner, lists, items, cell_or_nil, chain, list_of, cells_from, rename_entry, rename_hanging, rename_standing, rename_resources, AgreeAt}
+use Rattle.rx_rdfa.proofs.Common.{◌≡◌, ℕ, suc, Bool, cond, List, [], ◌∷◌, ◌++◌, map, filter, flat_map, filter_map, Option, Some, None, option_map, refl, sym, ap, ◌∙◌, bytes_eq, Chars, Among, distinct, spo, Node, Blank, Term, Resource, rename_node, rename_term, rename, rdf_first, rdf_rest, Naming, Hanging, Forward, InList, Standing, Resources, resources, listed, hangs, own_owner, rule, value, to_node, ListEntry, entry, linked, touched, valued, awaited, entries_by, of_owner, lists, items, cell_or_nil, chain, list_of, cells_from, rename_entry, rename_hanging, rename_standing, rename_resources, AgreeAt}
 use Rattle.rx_rdfa.specs.Lists.{entries_at, cells}
 use Rattle.rx_rdfa.proofs.RenamedResources.{owner_is, hangs_is, resources_rename}
 use Rattle.rx_rdfa.proofs.RenamedElement.{rule_rename, value_rename}
@@ -57,17 +57,17 @@ entries_at_rename f g n m base at k s =
 
 module _ {O P T U : Type 0} (g : O → P) (h : T → U) where
   pub of_owner_rename : (same : O → O → Bool) (same' : P → P → Bool) → ((a b : O) → same a b ≡ same' (g a) (g b))
-      → (owner : O) (list : List (Entry O T)) → map (rename_entry g h) (of_owner same owner list) ≡ of_owner same' (g owner) (map (rename_entry g h) list)
+      → (owner : O) (list : List (ListEntry O T)) → map (rename_entry g h) (of_owner same owner list) ≡ of_owner same' (g owner) (map (rename_entry g h) list)
   of_owner_rename same same' k owner list = map_filtered (rename_entry g h) (λ e. same e.owner owner) (λ e. same' e.owner (g owner)) (λ e. k e.owner owner) list
 
-  pub lists_rename : (list : List (Entry O T)) → lists (map (rename_entry g h) list) ≡ lists list
-  lists_rename list = ap (distinct bytes_eq) (map_each (λ (e : Entry P U). e.predicate) (rename_entry g h) (λ (e : Entry O T). e.predicate) list (λ e. refl))
+  pub lists_rename : (list : List (ListEntry O T)) → lists (map (rename_entry g h) list) ≡ lists list
+  lists_rename list = ap (distinct bytes_eq) (map_each (λ (e : ListEntry P U). e.predicate) (rename_entry g h) (λ (e : ListEntry O T). e.predicate) list (λ e. refl))
 
-  pub items_rename : (p : Chars) (list : List (Entry O T)) → map h (items p list) ≡ items p (map (rename_entry g h) list)
+  pub items_rename : (p : Chars) (list : List (ListEntry O T)) → map h (items p list) ≡ items p (map (rename_entry g h) list)
   items_rename p list =
-      let here : Entry O T → Bool = λ e. bytes_eq e.predicate p in
-      map_found h (λ (e : Entry O T). e.item) (λ (e : Entry P U). e.item) (rename_entry g h) (λ e. refl) (filter here list)
-      ∙ ap (filter_map (λ (e : Entry P U). e.item)) (map_filtered (rename_entry g h) here (λ (e : Entry P U). bytes_eq e.predicate p) (λ e. refl) list)
+      let here : ListEntry O T → Bool = λ e. bytes_eq e.predicate p in
+      map_found h (λ (e : ListEntry O T). e.item) (λ (e : ListEntry P U). e.item) (rename_entry g h) (λ e. refl) (filter here list)
+      ∙ ap (filter_map (λ (e : ListEntry P U). e.item)) (map_filtered (rename_entry g h) here (λ (e : ListEntry P U). bytes_eq e.predicate p) (λ e. refl) list)
 
 -- ---- cells
 
@@ -94,14 +94,14 @@ module _ {B C : Type 0} (f : B → C) (cell : ℕ → B) (cell' : ℕ → C) whe
   list_is subject p list k = λ j. to_node (rename_node f subject) p (cell_or_nil_is 0 list k j) ∷ chain_is 0 list k j
 
 module _ {B O C P : Type 0} (f : B → C) (g : O → P) (cell : Chars → ℕ → B) (cell' : Chars → ℕ → C) (subject : Node B) where
-  pub cells_from_rename : (own : List (Entry O (Term B))) → ((p : Chars) → Among (lists own) p → CellsAlike f (cell p) (cell' p) 0 (items p own))
+  pub cells_from_rename : (own : List (ListEntry O (Term B))) → ((p : Chars) → Among (lists own) p → CellsAlike f (cell p) (cell' p) 0 (items p own))
       → map (rename f) (cells_from cell subject own) ≡ cells_from cell' (rename_node f subject) (map (rename_entry g (rename_term f)) own)
   cells_from_rename own k = map_flat (rename f) (λ p. list_of (cell p) subject p (items p own)) (λ p. list_of (cell' p) (rename_node f subject) p (items p (map (rename_entry g (rename_term f)) own))) (lists own)
       (λ p a. list_is f (cell p) (cell' p) subject p (items p own) (k p a) ∙ ap (list_of (cell' p) (rename_node f subject) p) (items_rename g (rename_term f) p own))
       ∙ ap (flat_map (λ p. list_of (cell' p) (rename_node f subject) p (items p (map (rename_entry g (rename_term f)) own)))) (sym (lists_rename g (rename_term f) own))
 
 pub cells_rename : {B O C P : Type 0} (f : B → C) (g : O → P) (n : Naming B O) (m : Naming C P) → ((a b : O) → n.same_owner a b ≡ m.same_owner (g a) (g b))
-    → (all : List (Entry O (Term B))) (owner : O) (subject : Node B)
+    → (all : List (ListEntry O (Term B))) (owner : O) (subject : Node B)
     → ((p : Chars) → Among (lists (of_owner n.same_owner owner all)) p → CellsAlike f (n.cell owner p) (m.cell (g owner) p) 0 (items p (of_owner n.same_owner owner all)))
     → map (rename f) (cells n all owner subject) ≡ cells m (map (rename_entry g (rename_term f)) all) (g owner) (rename_node f subject)
 unfolding cells

@@ -1,6 +1,6 @@
 -- Renaming goes through reading with frames.
-use Rattle.rx_rdfa.proofs.Common.{◌≡◌, suc, Bool, true, false, cond, List, [], ◌∷◌, ◌++◌, map, Option, Some, None, option_map, refl, sym, ap, ap₂, ◌∙◌, bytes_eq, map-append, Chars, Term, Triple, rename_term, rename, Path, Naming, model, Nodes, Facts, Inherited, Standing, Resources, resources, up, Rule, value_now, value, rule, start_of, end_of, Entry, entry, entries_by, lists_below, lists_of, page_lists, Slot, Full, Waiting, Machine, inherit, slot_of, rule_at, fill_slot, fill, settled, settle, entered, enter, read, number, left, leave_with, leave, begun, finished, rename_entry, rename_slot, rename_inherited, rename_standing, rename_resources, rename_rule, rename_machine, AgreeAt, Agree, MadeRenames}
-use Rattle.rx_rdfa.specs.Tree.{end, element, text}
+use Rattle.rx_rdfa.proofs.Common.{◌≡◌, suc, Bool, true, false, cond, List, [], ◌∷◌, ◌++◌, map, Option, Some, None, option_map, refl, sym, ap, ap₂, ◌∙◌, bytes_eq, map-append, Chars, Term, Triple, rename_term, rename, Path, Naming, model, Nodes, Facts, Inherited, Standing, Resources, resources, up, Rule, value_now, value, rule, start_of, end_of, ListEntry, entry, entries_by, lists_below, lists_of, page_lists, Slot, Full, Waiting, Machine, inherit, slot_of, rule_at, fill_slot, fill, settled, settle, entered, enter, read, number, left, leave_with, leave, machine_begun, finished, rename_entry, rename_slot, rename_inherited, rename_standing, rename_resources, rename_rule, rename_machine, AgreeAt, Agree, MadeRenames}
+use Rattle.rx_grammar.specs.Trees.{end, element, text}
 use Rattle.rx_rdfa.specs.Machine.{value_at, reserved, run}
 use Rattle.rx_rdfa.proofs.RenamedResources.{resources_rename, below_rename}
 use Rattle.rx_rdfa.proofs.RenamedElement.{rule_rename, value_now_rename, value_rename, start_rename, end_rename}
@@ -24,11 +24,11 @@ module _ {B O C P : Type 0} (f : B → C) (g : O → P) where
   filled_option r v None = refl
   filled_option r v (Some s) = ap Some (filled_is r v s)
 
-  pub fill_rename : (r : Path) (v : Term B) (slots : List (Entry O (Slot B))) → map (rename_entry g (rename_slot f)) (fill r v slots) ≡ fill r (rename_term f v) (map (rename_entry g (rename_slot f)) slots)
+  pub fill_rename : (r : Path) (v : Term B) (slots : List (ListEntry O (Slot B))) → map (rename_entry g (rename_slot f)) (fill r v slots) ≡ fill r (rename_term f v) (map (rename_entry g (rename_slot f)) slots)
   fill_rename r v [] = refl
   fill_rename r v (e ∷ slots) = ap₂ ◌∷◌ (λ i. entry (g e.owner) (filled_option r v e.item i) e.predicate) (fill_rename r v slots)
 
-  pub settle_rename : (slots : List (Entry O (Slot B))) → map (rename_entry g (rename_term f)) (settle slots) ≡ settle (map (rename_entry g (rename_slot f)) slots)
+  pub settle_rename : (slots : List (ListEntry O (Slot B))) → map (rename_entry g (rename_term f)) (settle slots) ≡ settle (map (rename_entry g (rename_slot f)) slots)
   settle_rename slots = map_found (rename_entry g (rename_term f)) settled settled (rename_entry g (rename_slot f)) (λ e. by e.owner e.predicate e.item) slots
     where
       by : (o : O) (p : Chars) (item : Option (Slot B)) → option_map (rename_entry g (rename_term f)) (settled (entry o item p)) ≡ settled (entry (g o) (option_map (rename_slot f) item) p)
@@ -84,14 +84,14 @@ module _ {B O C P : Type 0} (f : B → C) (g : O → P) (n : Naming B O) (m : Na
       entered_rename f g n m base at (agree_at f g n m k base facts (x.next ∷ x.path)) x
       ∙ ap (λ (z : Inherited C P). entered m base (record { facts = facts; path = x.next ∷ x.path; around = z }) (rename_machine f g x)) (inherit_is x.standings)
 
-  left_is : (at : Standing B O) (more : List (Standing B O)) (s : Chars) (texts : List Chars) (slots : List (Entry O (Slot B))) (out : List (Triple B))
+  left_is : (at : Standing B O) (more : List (Standing B O)) (s : Chars) (texts : List Chars) (slots : List (ListEntry O (Slot B))) (out : List (Triple B))
       → rename_machine f g (left n base at more s texts slots out)
       ≡ left m base (rename_standing f g at) (map (rename_standing f g) more) s texts (map (rename_entry g (rename_slot f)) slots) (map (rename f) out)
   left_is at more s texts slots out =
       let a = agree_at f g n m k base at.facts at.path in
       let there : Standing C P = rename_standing f g at in
-      let filled : List (Entry O (Slot B)) = fill at.path (value_at n base at s) slots in
-      let after : List (Entry P (Slot C)) = fill at.path (value_at m base there s) (map (rename_entry g (rename_slot f)) slots) in
+      let filled : List (ListEntry O (Slot B)) = fill at.path (value_at n base at s) slots in
+      let after : List (ListEntry P (Slot C)) = fill at.path (value_at m base there s) (map (rename_entry g (rename_slot f)) slots) in
       let slots_are : map (rename_entry g (rename_slot f)) filled ≡ after =
       fill_rename f g at.path (value_at n base at s) slots
       ∙ ap (λ z. fill at.path z (map (rename_entry g (rename_slot f)) slots)) (value_at_rename f g n m base at a s)
@@ -137,7 +137,7 @@ pub made_renames : MadeRenames
 made_renames to to_owner naming k base tree = record {
   list = sym (made_rename to to_owner model naming k base tree);
   reading =
-      ap (finished naming base) (sym (run_rename to to_owner model naming k base tree begun))
-      ∙ sym (finished_rename to to_owner model naming k base (run model base tree begun))
+      ap (finished naming base) (sym (run_rename to to_owner model naming k base tree machine_begun))
+      ∙ sym (finished_rename to to_owner model naming k base (run model base tree machine_begun))
       ∙ ap (map (rename to)) (reading_makes base tree);
 }

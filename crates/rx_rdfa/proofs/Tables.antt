@@ -1,7 +1,7 @@
 -- The law of tables.
-use Rattle.rx_rdfa.proofs.Common.{◌≡◌, Bool, true, false, cond, List, [], ◌∷◌, ◌++◌, map, filter, filter_map, Option, Some, None, bytes_eq, option_to_list, refl, sym, ap, ap₂, ◌∙◌, append_assoc, append-nil, true≢false, not, ◌&&◌, cons_option, by_test, same_truth, Chars, false_unless, exact_texts, Entry, lists, items, put, table_from, TablesAreLists}
+use Rattle.rx_rdfa.proofs.Common.{◌≡◌, Bool, true, false, cond, List, [], ◌∷◌, ◌++◌, map, filter, filter_map, Option, Some, None, bytes_eq, option_to_list, refl, sym, ap, ap₂, ◌∙◌, append_assoc, append-nil, true≢false, not, ◌&&◌, cons_option, by_test, same_truth, Chars, false_unless, exact_texts, ListEntry, lists, items, put, table_from, TablesAreLists}
 use Rattle.std.proofs.lemmas.List.Elements.{filter_agree}
-use Rattle.rx_rdfa.specs.Tables.{Table}
+use Rattle.rx_rdfa.specs.Tables.{PredicateTable}
 
 flipped : (a b : Chars) → bytes_eq a b ≡ bytes_eq b a
 flipped a b = same_truth (bytes_eq a b) (bytes_eq b a) (λ h. (exact_texts b a).1 (sym ((exact_texts a b).0 h))) (λ h. (exact_texts a b).1 (sym ((exact_texts b a).0 h)))
@@ -29,27 +29,27 @@ others p q = not (bytes_eq p q)
 
 module _ {O T : Type 0} where
   -- the entries whose predicates pass the test
-  abbrev kept : (Chars → Bool) → List (Entry O T) → List (Entry O T)
-  kept P ys = filter (λ (e : Entry O T). P e.predicate) ys
+  abbrev kept : (Chars → Bool) → List (ListEntry O T) → List (ListEntry O T)
+  kept P ys = filter (λ (e : ListEntry O T). P e.predicate) ys
 
   -- the first row takes its items, and the rows below the entries of other predicates
-  first_row : (p : Chars) (vs : List T) (t : Table T) (ys : List (Entry O T)) → table_from ((p, vs) ∷ t) ys ≡ (p, vs ++ items p ys) ∷ table_from t (kept (others p) ys)
+  first_row : (p : Chars) (vs : List T) (t : PredicateTable T) (ys : List (ListEntry O T)) → table_from ((p, vs) ∷ t) ys ≡ (p, vs ++ items p ys) ∷ table_from t (kept (others p) ys)
   first_row p vs t [] = ap (λ (z : List T). (p, z) ∷ t) (sym (append-nil vs))
   first_row p vs t (e ∷ ys) = by_test (bytes_eq p e.predicate)
       (λ h. rw (flipped e.predicate p, h) (first_row p (vs ++ option_to_list e.item) t ys
       ∙ ap (λ (z : List T). (p, z) ∷ table_from t (kept (others p) ys)) (append_assoc vs (option_to_list e.item) (items p ys) ∙ ap (λ z. vs ++ z) (of_item e.item (items p ys)))))
       (λ h. rw (flipped e.predicate p, h) (first_row p vs (put e.predicate e.item t) ys))
 
-  items_kept : (P : Chars → Bool) (p : Chars) → P p ≡ true → (ys : List (Entry O T)) → items p (kept P ys) ≡ items p ys
-  items_kept P p h ys = ap (filter_map (λ (e : Entry O T). e.item))
-      (filter_both (λ (e : Entry O T). bytes_eq e.predicate p) (λ (e : Entry O T). P e.predicate) (λ (e : Entry O T). bytes_eq e.predicate p) (λ e. of (bytes_eq e.predicate p) (P e.predicate) (λ t. ap P ((exact_texts e.predicate p).0 t) ∙ h)) ys)
+  items_kept : (P : Chars → Bool) (p : Chars) → P p ≡ true → (ys : List (ListEntry O T)) → items p (kept P ys) ≡ items p ys
+  items_kept P p h ys = ap (filter_map (λ (e : ListEntry O T). e.item))
+      (filter_both (λ (e : ListEntry O T). bytes_eq e.predicate p) (λ (e : ListEntry O T). P e.predicate) (λ (e : ListEntry O T). bytes_eq e.predicate p) (λ e. of (bytes_eq e.predicate p) (P e.predicate) (λ t. ap P ((exact_texts e.predicate p).0 t) ∙ h)) ys)
     where
       of : (a b : Bool) → (a ≡ true → b ≡ true) → a ≡ (b && a)
       of true b k = sym (rw (k refl) refl)
       of false true k = refl
       of false false k = refl
 
-  table_kept : (P : Chars → Bool) (ys : List (Entry O T)) → table_from [] (kept P ys) ≡ map (λ q. (q, items q ys)) (filter P (lists ys))
+  table_kept : (P : Chars → Bool) (ys : List (ListEntry O T)) → table_from [] (kept P ys) ≡ map (λ q. (q, items q ys)) (filter P (lists ys))
   table_kept P [] = refl
   table_kept P (e ∷ ys) =
       let p : Chars = e.predicate in
@@ -62,9 +62,9 @@ module _ {O T : Type 0} where
       in
       by_test (P p)
       (λ h. rw (h, (exact_texts p p).1 refl) (first_row p (option_to_list e.item) [] (kept P ys)
-      ∙ ap₂ (λ (z : List T) (w : Table T). (p, z) ∷ w) (ap (λ z. option_to_list e.item ++ z) (items_kept P p h ys) ∙ of_item e.item (items p ys))
-      (ap (table_from []) (filter_both (λ (e : Entry O T). others p e.predicate) (λ (e : Entry O T). P e.predicate) (λ (e : Entry O T). both e.predicate) (λ e. refl) ys) ∙ rest)))
-      (λ h. rw h (ap (table_from []) (filter_agree (λ (e : Entry O T). P e.predicate) (λ (e : Entry O T). both e.predicate)
+      ∙ ap₂ (λ (z : List T) (w : PredicateTable T). (p, z) ∷ w) (ap (λ z. option_to_list e.item ++ z) (items_kept P p h ys) ∙ of_item e.item (items p ys))
+      (ap (table_from []) (filter_both (λ (e : ListEntry O T). others p e.predicate) (λ (e : ListEntry O T). P e.predicate) (λ (e : ListEntry O T). both e.predicate) (λ e. refl) ys) ∙ rest)))
+      (λ h. rw h (ap (table_from []) (filter_agree (λ (e : ListEntry O T). P e.predicate) (λ (e : ListEntry O T). both e.predicate)
       (λ e. by_test (bytes_eq p e.predicate) (λ t. rw (t, ap P (sym ((exact_texts p e.predicate).0 t)) ∙ h) refl) (λ t. rw t (and_turned true (P e.predicate)))) ys) ∙ rest))
 
 passes : {A : Type 0} (xs : List A) → filter (λ _. true) xs ≡ xs

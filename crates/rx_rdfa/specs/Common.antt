@@ -14,20 +14,21 @@ pub use Rattle.rx_rdfa.specs.Element.{end_of, start_of, to_node}
 pub use Rattle.rx_rdfa.specs.Facts.{Body, Datatype, ElementKind, Empty, Facts, Head, IriRef, Is, LabelRef, Other, Ref, RelativeRef, Time, facts, iri_of, predicate, ref_of, with_facts}
 pub use Rattle.rx_rdfa.specs.Inherited.{below, handed, hangs, holds_some, inherited, listed, object_below, own_owner, up}
 pub use Rattle.rx_rdfa.specs.Iris.{uses_vocabulary, xsd}
-pub use Rattle.rx_rdfa.specs.Lists.{Entry, entries_by, entry, linked, list_of, map_entry, of_owner, touched}
+pub use Rattle.rx_rdfa.specs.Lists.{ListEntry, entries_by, entry, linked, list_of, map_entry, of_owner, touched}
 pub use Rattle.rx_rdfa.specs.Machine.{Full, Machine, ReadingMakes, Slot, Waiting, fill}
-pub use Rattle.rx_rdfa.specs.Names.{Context, Table, as_lang, counts, declarations, is_nc_name, language, of_prefix, pairs, prefix, term, unless_empty, value_at, vocab, xmlns_of}
+pub use Rattle.rx_rdfa.specs.Names.{Context, Table, as_lang, counts, declarations, is_nc_name, language, of_prefix, pairs, prefix, table_value, term, unless_empty, vocab, xmlns_of}
 pub use Rattle.rx_rdfa.specs.Naming.{Naming, Path}
 pub use Rattle.rx_rdfa.specs.Pages.{read_tag, tags_of}
-pub use Rattle.rx_rdfa.specs.Readings.{Reading, is_term, read_term}
+pub use Rattle.rx_rdfa.specs.Readings.{CurieReading, is_term, read_term}
 pub use Rattle.rx_rdfa.specs.Refusals.{HtmlLiteral, Refusal, RelativeVocab, XmlLiteral, is_relative, rdf_html, rdf_xml_literal, refusal}
 pub use Rattle.rx_rdfa.specs.Renaming.{MadeRenames, labels, rename_inherited, rename_slot}
 pub use Rattle.rx_rdfa.specs.Resources.{Forward, Hanging, InList, Inherited, Resources, Reverse, Standing, about, base_at_root, default_subject, has_link, is_head_or_body, is_plain_property, is_root_child, linked_resource, new_blank, of_link, of_no_link, of_property, only, parent_for_head_and_body, resource_attribute, resource_named, resources}
-pub use Rattle.rx_rdfa.specs.Standard.{row_of, standard}
+pub use Rattle.rx_rdfa.specs.Standard.{row_chars, standard}
 pub use Rattle.rx_rdfa.specs.Tables.{TablesAreLists, put}
 pub use Rattle.rx_rdfa.specs.Times.{Parts, after_char, after_clock, after_digits, after_fraction, after_hms, after_some_digits, after_two, digits, is_zero, without_minus}
-pub use Rattle.rx_rdfa.specs.Tree.{Nodes, Tag, attribute, value_of_first}
-pub use Rattle.rx_rdfa.specs.Value.{ByResource, ByText, ByTyped, gathers, is_time, literal_by, plain_literal, rule, rule_or, time_literal, typed_literal, value, value_now, value_of_text}
+pub use Rattle.rx_grammar.specs.Trees.{Nodes}
+pub use Rattle.rx_rdfa.specs.Tree.{ElementTag, attribute, value_of_first}
+pub use Rattle.rx_rdfa.specs.Value.{ByResource, ByText, ByTyped, datatype_literal, gathers, is_time, literal_by, plain_literal, rule, rule_or, time_literal, value, value_now, value_of_text}
 pub use Rattle.rx_rdfa.specs.Whole.{WrittenDenotes, graph_of, written}
 pub use Rattle.rx_refs.specs.Resolve.{cleaned, resolved}
 pub use Rattle.rx_terms.specs.Common.{String, encode_utf8_all, flat_map, has_scheme, is_forbidden, is_iri, is_lt, match_ordering, percent_sign, trimmed}

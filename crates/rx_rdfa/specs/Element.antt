@@ -3,7 +3,8 @@ use Rattle.std.specs.Prelude.{ℕ, suc, List, [], ◌∷◌, ◌++◌, map, filt
 use Rattle.rx_model.specs.Common.{Chars, Node, Iri, Term, Resource, Triple, spo, rdf_type}
 use Rattle.rx_rdfa.specs.Iris.{uses_vocabulary}
 use Rattle.rx_rdfa.specs.Naming.{Path, Naming}
-use Rattle.rx_rdfa.specs.Tree.{Nodes, end, element, text, all_text}
+use Rattle.rx_grammar.specs.Trees.{Nodes, end, element, text}
+use Rattle.rx_rdfa.specs.Tree.{element_text}
 use Rattle.rx_rdfa.specs.Facts.{Facts}
 use Rattle.rx_rdfa.specs.Resources.{Hanging, Forward, Reverse, InList, Resources, Standing, resources, resource_named}
 use Rattle.rx_rdfa.specs.Inherited.{listed, inherited, up}
@@ -11,40 +12,40 @@ use Rattle.rx_rdfa.specs.Value.{rule, value_now, value_of_text}
 
 -- a place, which is an element of a finished tree: the facts of the elements around it from the nearest on, its own,
 -- its path, and what is inside
-pub record Place : Type 0 where
+pub record TreePlace : Type 0 where
   pub above : List Facts
   pub facts : Facts
   pub path : Path
   pub inside : Nodes Facts
 
 -- the places of the nodes from number i on, in document order
-abbrev pub places_from : List Facts → Path → ℕ → Nodes Facts → List Place
+abbrev pub places_from : List Facts → Path → ℕ → Nodes Facts → List TreePlace
 places_from above path i end = []
 places_from above path i (element facts inside rest) =
     record { above = above; facts = facts; path = i ∷ path; inside = inside }
     ∷ (places_from (facts ∷ above) (i ∷ path) 0 inside ++ places_from above path (suc i) rest)
 places_from above path i (text s rest) = places_from above path i rest
 
-abbrev pub places : Nodes Facts → List Place
+abbrev pub places : Nodes Facts → List TreePlace
 places tree = places_from [] [] 0 tree
 
 -- of each element what it has in front, its children's parts, and what it has behind
-abbrev pub in_order_from : {A : Type 0} → (front back : Place → List A) → List Facts → Path → ℕ → Nodes Facts → List A
+abbrev pub in_order_from : {A : Type 0} → (front back : TreePlace → List A) → List Facts → Path → ℕ → Nodes Facts → List A
 in_order_from front back above path i end = []
 in_order_from front back above path i (element facts inside rest) =
-    let place : Place = record { above = above; facts = facts; path = i ∷ path; inside = inside } in
+    let place : TreePlace = record { above = above; facts = facts; path = i ∷ path; inside = inside } in
     front place
     ++ (in_order_from front back (facts ∷ above) (i ∷ path) 0 inside ++ (back place ++ in_order_from front back above path (suc i) rest))
 in_order_from front back above path i (text s rest) = in_order_from front back above path i rest
 
-abbrev pub in_order : {A : Type 0} → (front back : Place → List A) → Nodes Facts → List A
+abbrev pub in_order : {A : Type 0} → (front back : TreePlace → List A) → Nodes Facts → List A
 in_order front back tree = in_order_from front back [] [] 0 tree
 
 abbrev pub to_node : {B : Type 0} → Node B → Chars → Node B → Triple B
 to_node subject predicate object = spo subject predicate (Resource object)
 
 -- the element at a place, with what it inherits
-abbrev pub standing : {B O : Type 0} → Naming B O → Chars → Place → Standing B O
+abbrev pub standing : {B O : Type 0} → Naming B O → Chars → TreePlace → Standing B O
 standing naming base place =
     record { facts = place.facts; path = place.path; around = inherited naming base place.above (up place.path) }
 
@@ -100,8 +101,8 @@ end_of naming base at chars =
     let by = rule naming base at.facts here in
     if here.skipped then [] else properties_by naming base at here (text_value (value_now by at.facts) (value_of_text by at.facts chars))
 
-abbrev pub start : {B O : Type 0} → Naming B O → Chars → Place → List (Triple B)
+abbrev pub start : {B O : Type 0} → Naming B O → Chars → TreePlace → List (Triple B)
 start naming base place = start_of naming base (standing naming base place)
 
-abbrev pub end' : {B O : Type 0} → Naming B O → Chars → Place → List (Triple B)
-end' naming base place = end_of naming base (standing naming base place) (all_text place.inside)
+abbrev pub end' : {B O : Type 0} → Naming B O → Chars → TreePlace → List (Triple B)
+end' naming base place = end_of naming base (standing naming base place) (element_text place.inside)

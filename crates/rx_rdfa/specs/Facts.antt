@@ -2,9 +2,10 @@
 use Rattle.std.specs.Prelude.{Bool, not, ◌&&◌, List, [], ◌∷◌, ◌++◌, filter, filter_map, Option, Some, None, option_map, option_and_then, is_some, bytes_eq, codes, if◌then◌else◌}
 use Rattle.rx_terms.specs.Common.{Chars, trimmed, tokens, rdf_lang_string}
 use Rattle.rx_refs.specs.Resolve.{cleaned}
-use Rattle.rx_rdfa.specs.Tree.{Tag, attribute, Nodes, end, element, text}
+use Rattle.rx_grammar.specs.Trees.{Nodes, end, element, text}
+use Rattle.rx_rdfa.specs.Tree.{ElementTag, attribute}
 use Rattle.rx_rdfa.specs.Names.{Context, language, unless_empty}
-use Rattle.rx_rdfa.specs.Readings.{Reading, Full, Joined, Label, Reference, read_term, read_no_term, read_resource, is_term}
+use Rattle.rx_rdfa.specs.Readings.{CurieReading, Full, Joined, Label, Reference, read_term, read_no_term, read_resource, is_term}
 
 -- the elements of which HTML+RDFa speaks
 pub data ElementKind : Type 0 where
@@ -46,25 +47,25 @@ kind_of name =
     else Other
 
 -- the resource that a reading names
-abbrev pub ref_of : Reading → Ref
+abbrev pub ref_of : CurieReading → Ref
 ref_of (Full iri) = IriRef (cleaned iri)
 ref_of (Joined iri more) = IriRef (cleaned (iri ++ more))
 ref_of (Label label) = LabelRef label
 ref_of (Reference reference) = RelativeRef reference
 
 -- the IRI that a reading names as a predicate or a datatype; blank nodes are passed over (own rule)
-abbrev pub iri_of : Reading → Option Chars
+abbrev pub iri_of : CurieReading → Option Chars
 iri_of (Full iri) = Some (cleaned iri)
 iri_of (Joined iri more) = Some (cleaned (iri ++ more))
 iri_of (Label label) = None
 iri_of (Reference reference) = None
 
 -- own rule: a datatype that can't be read, or is rdf:langString, counts as the empty one
-abbrev pub datatype_of : Option Chars → Datatype
-datatype_of None = Empty
-datatype_of (Some iri) = if bytes_eq iri rdf_lang_string then Empty else Is iri
+abbrev pub attribute_datatype : Option Chars → Datatype
+attribute_datatype None = Empty
+attribute_datatype (Some iri) = if bytes_eq iri rdf_lang_string then Empty else Is iri
 
-module _ (context : Context) (line : List Tag) where
+module _ (context : Context) (line : List ElementTag) where
   abbrev pub predicate : Chars → Option Chars
   predicate token = option_and_then iri_of (read_term context line token)
 
@@ -92,7 +93,7 @@ module _ (context : Context) (line : List Tag) where
   resource_of value = option_map ref_of (read_resource context line value)
 
   -- 5: the attributes
-  abbrev pub facts_of : Tag → Facts
+  abbrev pub facts_of : ElementTag → Facts
   facts_of tag =
       let has_property = is_some (attribute tag (codes "property")) in
       record {
@@ -107,18 +108,18 @@ module _ (context : Context) (line : List Tag) where
         types = option_map types_of (attribute tag (codes "typeof"));
         content = attribute tag (codes "content");
         datetime = attribute tag (codes "datetime");
-        datatype = option_map (λ value. datatype_of (predicate (trimmed value))) (attribute tag (codes "datatype"));
+        datatype = option_map (λ value. attribute_datatype (predicate (trimmed value))) (attribute tag (codes "datatype"));
         inlist = is_some (attribute tag (codes "inlist"));
         vocab = option_map cleaned (option_and_then (λ value. unless_empty (trimmed value)) (attribute tag (codes "vocab")));
         lang = language line;
       }
 
 -- the facts of a tag, whose own declarations already hold, below a line
-abbrev pub facts : Context → List Tag → Tag → Facts
+abbrev pub facts : Context → List ElementTag → ElementTag → Facts
 facts context above tag = facts_of context (tag ∷ above) tag
 
 -- the tree with the facts of each element in place of its start tag
-abbrev pub with_facts : Context → List Tag → Nodes Tag → Nodes Facts
+abbrev pub with_facts : Context → List ElementTag → Nodes ElementTag → Nodes Facts
 with_facts context above end = end
 with_facts context above (element tag inside rest) =
     element (facts context above tag) (with_facts context (tag ∷ above) inside) (with_facts context above rest)

@@ -1,22 +1,22 @@
 -- The list of a tree's triples, with each owner's lists worked out from its own element and what is inside it.
 use Rattle.std.specs.Prelude.{◌≡◌, List, ◌∷◌, ◌++◌, flat_map}
 use Rattle.rx_model.specs.Common.{Chars, Term, Triple}
-use Rattle.rx_rdfa.specs.Tree.{Nodes}
+use Rattle.rx_grammar.specs.Trees.{Nodes}
 use Rattle.rx_rdfa.specs.Naming.{Naming}
 use Rattle.rx_rdfa.specs.Blanks.{model}
 use Rattle.rx_rdfa.specs.Facts.{Facts}
-use Rattle.rx_rdfa.specs.Element.{Place, places_from, start, in_order}
-use Rattle.rx_rdfa.specs.Lists.{Entry, entries_of, entries}
+use Rattle.rx_rdfa.specs.Element.{TreePlace, places_from, start, in_order}
+use Rattle.rx_rdfa.specs.Lists.{ListEntry, entries_of, entries}
 use Rattle.rx_rdfa.specs.Made.{made, end_and_lists, page_lists}
 
 module _ {B O : Type 0} (naming : Naming B O) (base : Chars) where
   -- the entries of an element and of those inside it
-  abbrev pub entries_within : Place → List (Entry O (Term B))
+  abbrev pub entries_within : TreePlace → List (ListEntry O (Term B))
   entries_within place =
       entries_of naming base place ++ flat_map (entries_of naming base) (places_from (place.facts ∷ place.above) place.path 0 place.inside)
 
   -- what an element has at its end, when no entry outside it is known
-  abbrev pub local_end : Place → List (Triple B)
+  abbrev pub local_end : TreePlace → List (Triple B)
   local_end place = end_and_lists naming base (entries_within place) place
 
   -- the list, where each element writes its lists with what is known at its end

@@ -2,7 +2,7 @@
 -- calls does.
 use Rattle.std.specs.Prelude.{◌≡◌, ℕ, suc, List, [], ◌∷◌, ◌++◌, map, filter_map, Option, Some, None, bytes_eq, if◌then◌else◌}
 use Rattle.rx_model.specs.Common.{Chars, Term, Triple}
-use Rattle.rx_rdfa.specs.Tree.{Nodes, end, element, text}
+use Rattle.rx_grammar.specs.Trees.{Nodes, end, element, text}
 use Rattle.rx_rdfa.specs.Naming.{Path, Naming}
 use Rattle.rx_rdfa.specs.Blanks.{model}
 use Rattle.rx_rdfa.specs.Facts.{Facts}
@@ -10,7 +10,7 @@ use Rattle.rx_rdfa.specs.Resources.{Inherited, Standing, resources}
 use Rattle.rx_rdfa.specs.Inherited.{below, at_page, up}
 use Rattle.rx_rdfa.specs.Value.{Rule, rule, value_now, value}
 use Rattle.rx_rdfa.specs.Element.{start_of, end_of}
-use Rattle.rx_rdfa.specs.Lists.{map_entry, Entry, entries_by}
+use Rattle.rx_rdfa.specs.Lists.{map_entry, ListEntry, entries_by}
 use Rattle.rx_rdfa.specs.Made.{lists_below, lists_of, page_lists, made}
 
 -- a place in a list: filled, or waiting for the text of the element at a path
@@ -25,7 +25,7 @@ pub record Machine (B O : Type 0) : Type 0 where
   pub path : Path
   pub next : ℕ
   pub texts : List Chars
-  pub slots : List (Entry O (Slot B))
+  pub slots : List (ListEntry O (Slot B))
   pub out : List (Triple B)
 
 abbrev pub slot_of : {B : Type 0} → Path → Option (Term B) → Slot B
@@ -37,7 +37,7 @@ fill_slot path v (Full w) = Full w
 fill_slot path v (Waiting r) = if bytes_eq r path then Full v else Waiting r
 
 -- the slots when those that wait for the element at the path have its value
-abbrev pub fill : {B O : Type 0} → Path → Term B → List (Entry O (Slot B)) → List (Entry O (Slot B))
+abbrev pub fill : {B O : Type 0} → Path → Term B → List (ListEntry O (Slot B)) → List (ListEntry O (Slot B))
 fill path v slots = map (map_entry (fill_slot path v)) slots
 
 abbrev pub settled_item : {B : Type 0} → Option (Slot B) → Option (Option (Term B))
@@ -45,15 +45,15 @@ settled_item None = Some None
 settled_item (Some (Full v)) = Some (Some v)
 settled_item (Some (Waiting r)) = None
 
-abbrev pub settled_with : {B O : Type 0} → Entry O (Slot B) → Option (Option (Term B)) → Option (Entry O (Term B))
+abbrev pub settled_with : {B O : Type 0} → ListEntry O (Slot B) → Option (Option (Term B)) → Option (ListEntry O (Term B))
 settled_with e None = None
 settled_with e (Some item) = Some (record { owner = e.owner; predicate = e.predicate; item = item })
 
-abbrev pub settled : {B O : Type 0} → Entry O (Slot B) → Option (Entry O (Term B))
+abbrev pub settled : {B O : Type 0} → ListEntry O (Slot B) → Option (ListEntry O (Term B))
 settled e = settled_with e (settled_item e.item)
 
 -- the entries that wait for nothing
-abbrev pub settle : {B O : Type 0} → List (Entry O (Slot B)) → List (Entry O (Term B))
+abbrev pub settle : {B O : Type 0} → List (ListEntry O (Slot B)) → List (ListEntry O (Term B))
 settle slots = filter_map settled slots
 
 -- the number of the element at the path among those beside it
@@ -61,8 +61,8 @@ abbrev pub number : Path → ℕ
 number [] = 0
 number (i ∷ path) = i
 
-abbrev pub begun : {B O : Type 0} → Machine B O
-begun = record { standings = []; path = []; next = 0; texts = []; slots = []; out = [] }
+abbrev pub machine_begun : {B O : Type 0} → Machine B O
+machine_begun = record { standings = []; path = []; next = 0; texts = []; slots = []; out = [] }
 
 -- text is text of every open element
 abbrev pub read : {B O : Type 0} → Chars → Machine B O → Machine B O
@@ -82,7 +82,7 @@ unfoldable pub value_at : {B O : Type 0} → Naming B O → Chars → Standing B
 value_at naming base at chars = value (rule_at naming base at) at.facts chars
 
 -- the slots that an element takes at its start
-unfoldable pub reserved : {B O : Type 0} → Naming B O → Chars → Standing B O → List (Entry O (Slot B))
+unfoldable pub reserved : {B O : Type 0} → Naming B O → Chars → Standing B O → List (ListEntry O (Slot B))
 reserved naming base at =
     entries_by naming Full (slot_of at.path (value_now (rule_at naming base at) at.facts)) at (resources naming base at)
 
@@ -102,9 +102,9 @@ module _ {B O : Type 0} (naming : Naming B O) (base : Chars) where
   abbrev pub enter : Facts → Machine B O → Machine B O
   enter facts m = entered (record { facts = facts; path = m.next ∷ m.path; around = inherit naming base m.standings }) m
 
-  abbrev pub left : Standing B O → List (Standing B O) → Chars → List Chars → List (Entry O (Slot B)) → List (Triple B) → Machine B O
+  abbrev pub left : Standing B O → List (Standing B O) → Chars → List Chars → List (ListEntry O (Slot B)) → List (Triple B) → Machine B O
   left at more chars texts slots out =
-      let filled : List (Entry O (Slot B)) = fill at.path (value_at naming base at chars) slots in
+      let filled : List (ListEntry O (Slot B)) = fill at.path (value_at naming base at chars) slots in
       record {
         standings = more;
         path = up at.path;
@@ -136,4 +136,4 @@ finished naming base m = m.out ++ page_lists naming base (settle m.slots)
 
 -- law: what is had of a whole tree is its list
 abbrev pub ReadingMakes : Type 0
-ReadingMakes = (base : Chars) (tree : Nodes Facts) → finished model base (run model base tree begun) ≡ made model base tree
+ReadingMakes = (base : Chars) (tree : Nodes Facts) → finished model base (run model base tree machine_begun) ≡ made model base tree

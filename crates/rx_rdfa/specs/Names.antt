@@ -3,7 +3,7 @@
 use Rattle.std.specs.Prelude.{Bool, false, not, ◌&&◌, ◌==◌, List, [], ◌∷◌, ◌++◌, drop, reverse, filter, find, flat_map, Option, Some, None, option_map, bytes_eq, codes, if◌then◌else◌}
 use Rattle.rx_terms.specs.Common.{option_or, list_all, colon, Chars, trimmed, lowered, tokens, begins_with, has_scheme, is_lang}
 use Rattle.rx_chars.specs.NcName.{is_nc_start, is_nc}
-use Rattle.rx_rdfa.specs.Tree.{Tag, attribute}
+use Rattle.rx_rdfa.specs.Tree.{ElementTag, attribute}
 
 -- a table from names to IRIs
 abbrev pub Table : Type 0
@@ -15,8 +15,8 @@ pub record Context : Type 0 where
   pub terms : Table
 
 -- what the table has first at a name
-abbrev pub value_at : Chars → Table → Option Chars
-value_at name table = option_map (λ (row : Chars × Chars). row.1) (find (λ row. bytes_eq row.0 name) table)
+abbrev pub table_value : Chars → Table → Option Chars
+table_value name table = option_map (λ (row : Chars × Chars). row.1) (find (λ row. bytes_eq row.0 name) table)
 
 -- Namespaces in XML 1.0, 3, [4] NCName
 abbrev pub is_nc_name : Chars → Bool
@@ -55,13 +55,13 @@ of_prefix None = []
 of_prefix (Some value) = pairs (tokens value)
 
 -- RDFa Core 1.1, 7.5, step 3: the prefixes that a tag declares, first the attributes `xmlns:NAME` in order, then `prefix`
-abbrev pub declarations : Tag → Table
+abbrev pub declarations : ElementTag → Table
 declarations tag = filter counts (flat_map xmlns_of tag.attributes ++ of_prefix (attribute tag (codes "prefix")))
 
 -- the nearest declaration of a lowered name, the last one of its tag, else the context's
-abbrev pub prefix : Context → List Tag → Chars → Option Chars
-prefix context [] name = value_at name context.prefixes
-prefix context (tag ∷ above) name = option_or (value_at name (reverse (declarations tag))) (prefix context above name)
+abbrev pub prefix : Context → List ElementTag → Chars → Option Chars
+prefix context [] name = table_value name context.prefixes
+prefix context (tag ∷ above) name = option_or (table_value name (reverse (declarations tag))) (prefix context above name)
 
 abbrev pub unless_empty : Chars → Option Chars
 unless_empty [] = None
@@ -73,7 +73,7 @@ declared_or None says before = before
 declared_or (Some value) says before = says value
 
 -- RDFa Core 1.1, 7.5, step 2: the default vocabulary, that of the nearest tag with `vocab`, none where that is empty
-abbrev pub vocab : List Tag → Option Chars
+abbrev pub vocab : List ElementTag → Option Chars
 vocab [] = None
 vocab (tag ∷ above) = declared_or (attribute tag (codes "vocab")) (λ value. unless_empty (trimmed value)) (vocab above)
 
@@ -82,7 +82,7 @@ abbrev pub as_lang : Chars → Option Chars
 as_lang value = if is_lang value then Some value else None
 
 -- RDFa Core 1.1, 7.5, step 4, HTML+RDFa 1.1, 3.1: the language of the nearest tag that has `xml:lang`, or else `lang`
-abbrev pub language : List Tag → Option Chars
+abbrev pub language : List ElementTag → Option Chars
 language [] = None
 language (tag ∷ above) =
     declared_or (option_or (attribute tag (codes "xml:lang")) (attribute tag (codes "lang"))) as_lang (language above)
@@ -90,5 +90,5 @@ language (tag ∷ above) =
 -- RDFa Core 1.1, 7.4.3: the context's term of that exact name, else the first that is equal when both are lowered
 abbrev pub term : Context → Chars → Option Chars
 term context name =
-    option_or (value_at name context.terms)
+    option_or (table_value name context.terms)
     (option_map (λ (row : Chars × Chars). row.1) (find (λ row. bytes_eq (lowered row.0) (lowered name)) context.terms))

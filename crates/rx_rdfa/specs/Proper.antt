@@ -1,15 +1,10 @@
 -- Literals: RDF 1.1 Concepts, 3.3. One without a datatype of its own is an xsd:string, so that none is typed so.
-use Rattle.std.specs.Prelude.{◌≢◌, ℕ}
-use Rattle.rx_model.specs.Common.{Chars, Among, Typed, Term, Resource, Literal, Triple}
-use Rattle.rx_rdfa.specs.Iris.{xsd_string}
-use Rattle.rx_rdfa.specs.Tree.{Nodes}
+use Rattle.std.specs.Prelude.{ℕ}
+use Rattle.rx_model.specs.Common.{Chars, Among, Triple}
+use Rattle.rx_grammar.specs.Trees.{Nodes}
 use Rattle.rx_rdfa.specs.Facts.{Facts}
 use Rattle.rx_rdfa.specs.Whole.{written}
-
--- the term is no literal that is typed xsd:string
-abbrev pub IsProper : {B : Type 0} → Term B → Type 0
-IsProper (Resource node) = Unit {0}
-IsProper (Literal text kind) = kind ≢ Typed xsd_string
+use Rattle.rx_model.specs.Terms.{IsProper}
 
 -- law: such are all objects of the triples that are written
 abbrev pub LiteralsAreProper : Type 0

@@ -3,19 +3,19 @@ use Rattle.std.specs.Prelude.{◌≡◌, ℕ, List, [], ◌∷◌, ◌++◌, map
 use Rattle.rx_model.specs.Common.{Chars, Among, rename_node, rename_term, rename}
 use Rattle.rx_rdfa.specs.Naming.{Path, Naming}
 use Rattle.rx_rdfa.specs.Blanks.{Bnode, Owner, model}
-use Rattle.rx_rdfa.specs.Tree.{Nodes}
+use Rattle.rx_grammar.specs.Trees.{Nodes}
 use Rattle.rx_rdfa.specs.Facts.{Facts, Ref, IriRef, LabelRef, RelativeRef}
 use Rattle.rx_rdfa.specs.Resources.{Hanging, Forward, Reverse, InList, Inherited, Standing, Resources}
 use Rattle.rx_rdfa.specs.Inherited.{listed}
 use Rattle.rx_rdfa.specs.Value.{Rule, ByDatatype, ByContent, ByDatetime, ByTimeText, ByResource, ByTyped, ByText}
-use Rattle.rx_rdfa.specs.Lists.{Entry}
-use Rattle.rx_rdfa.specs.Machine.{Slot, Full, Waiting, Machine, run, begun, finished}
+use Rattle.rx_rdfa.specs.Lists.{ListEntry}
+use Rattle.rx_rdfa.specs.Machine.{Slot, Full, Waiting, Machine, run, machine_begun, finished}
 use Rattle.rx_rdfa.specs.Made.{made}
 
 -- ---- the renaming of what the rules speak of
 
 -- an entry with its owner and its item renamed
-abbrev pub rename_entry : {O P T U : Type 0} → (O → P) → (T → U) → Entry O T → Entry P U
+abbrev pub rename_entry : {O P T U : Type 0} → (O → P) → (T → U) → ListEntry O T → ListEntry P U
 rename_entry to_owner to_item e = record { owner = to_owner e.owner; predicate = e.predicate; item = option_map to_item e.item }
 
 abbrev pub rename_slot : {B C : Type 0} → (B → C) → Slot B → Slot C
@@ -112,7 +112,7 @@ module _ {B O C P : Type 0} (to : B → C) (to_owner : O → P) where
 -- the model's list renamed
 pub record NumbersMake (to : Bnode → ℕ) (to_owner : Owner → ℕ) (naming : Naming ℕ ℕ) (base : Chars) (tree : Nodes Facts) : Type 0 where
   pub list : made naming base tree ≡ map (rename to) (made model base tree)
-  pub reading : finished naming base (run naming base tree begun) ≡ map (rename to) (made model base tree)
+  pub reading : finished naming base (run naming base tree machine_begun) ≡ map (rename to) (made model base tree)
 
 abbrev pub MadeRenames : Type 0
 MadeRenames = (to : Bnode → ℕ) (to_owner : Owner → ℕ) (naming : Naming ℕ ℕ) → Agree to to_owner model naming

@@ -3,8 +3,8 @@ use Rattle.std.specs.Prelude.{List, [], ◌∷◌, map, codes}
 use Rattle.rx_terms.specs.Common.{String, Chars}
 use Rattle.rx_rdfa.specs.Names.{Context}
 
-abbrev pub row_of : String × String → Chars × Chars
-row_of row = (codes row.0, codes row.1)
+abbrev pub row_chars : String × String → Chars × Chars
+row_chars row = (codes row.0, codes row.1)
 
 abbrev pub standard_prefixes : List (String × String)
 standard_prefixes =
@@ -38,4 +38,4 @@ standard_terms =
 
 -- prefixes and terms stand in byte order
 abbrev pub standard : Context
-standard = record { prefixes = map row_of standard_prefixes; terms = map row_of standard_terms }
+standard = record { prefixes = map row_chars standard_prefixes; terms = map row_chars standard_terms }

@@ -8,8 +8,8 @@ use Rattle.rx_rdfa.specs.Facts.{Facts, Datatype, Empty, Is, ElementKind, Time, H
 use Rattle.rx_rdfa.specs.Resources.{Resources, resource_attribute, has_link, only}
 
 -- a literal of a datatype, which xsd:string leaves plain
-abbrev pub typed_literal : {B : Type 0} → Chars → Chars → Term B
-typed_literal lexical datatype = Literal lexical (if bytes_eq datatype xsd_string then Plain else Typed datatype)
+abbrev pub datatype_literal : {B : Type 0} → Chars → Chars → Term B
+datatype_literal lexical datatype = Literal lexical (if bytes_eq datatype xsd_string then Plain else Typed datatype)
 
 abbrev pub kind_by_lang : Option Chars → Kind
 kind_by_lang None = Plain
@@ -59,7 +59,7 @@ rule naming base facts here =
     (rule_or (only (is_some facts.types && is_none facts.about) here.typed) ByTyped ByText))))
 
 abbrev pub literal_by : {B : Type 0} → Datatype → Option Chars → Chars → Term B
-literal_by (Is datatype) lang lexical = typed_literal lexical datatype
+literal_by (Is datatype) lang lexical = datatype_literal lexical datatype
 literal_by Empty lang lexical = plain_literal lang lexical
 
 -- the value, where it isn't the element's text

@@ -1,7 +1,7 @@
 -- What is written of a page, and the graph that it denotes.
 use Rattle.std.specs.Prelude.{ℕ, List}
 use Rattle.rx_model.specs.Common.{Chars, Triple, Graph, set_of, copied, patterned, numbered, Renamed}
-use Rattle.rx_rdfa.specs.Tree.{Nodes}
+use Rattle.rx_grammar.specs.Trees.{Nodes}
 use Rattle.rx_rdfa.specs.Blanks.{Bnode, same_bnode, model}
 use Rattle.rx_rdfa.specs.Facts.{Facts}
 use Rattle.rx_rdfa.specs.Made.{raw, made}

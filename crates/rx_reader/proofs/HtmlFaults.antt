@@ -1,7 +1,7 @@
 -- Which character decides a fault of a value of HTML, and what stands before it.
 use Rattle.rx_grammar.proofs.Common.{◌≡◌, ℕ, Bool, true, false, [], ◌∷◌, ◌++◌, refl, ap, sym, ◌∙◌, append_assoc, inl, inr, ◌&&◌, ◌==◌, not, list_all, is_white_space, is_letter, is_digit, is_letter_or_digit, solidus, ampersand, semicolon, number_sign, Chars, both, either, untrue, not_both_ways, Syntax, is_hexadecimal_digit, is_x, begins_number, is_begun, meaning, is_quote, RunFault, unknown, bad, no_reference, ValueFault, in_run, less_than}
 use Rattle.rx_grammar.specs.declared.faults.Kind.{Kind}
-use Rattle.rx_reader.specs.Tables.{is_html}
+use Rattle.rx_reader.specs.Tables.{is_html_syntax}
 use Rattle.rx_reader.proofs.Classes.{of_white, of_one, unless}
 use Rattle.rx_reader.proofs.TextComplete.{body_begun}
 use Rattle.rx_reader.proofs.ValueFaults.{of_quote, snoc_front, snoc_last}
@@ -61,15 +61,15 @@ run_tail front body value c b e =
       closes = sym (snoc_last (front ++ ampersand ∷ body) value semicolon c k);
     }
 
-run_fault : (s : Syntax) (front value : Chars) (c : ℕ) {kind : Kind} {run : Chars} → is_html s ≡ true → RunFault s kind run → front ++ ampersand ∷ run ≡ value ++ c ∷ [] → HtmlFault value c
+run_fault : (s : Syntax) (front value : Chars) (c : ℕ) {kind : Kind} {run : Chars} → is_html_syntax s ≡ true → RunFault s kind run → front ++ ampersand ∷ run ≡ value ++ c ∷ [] → HtmlFault value c
 run_fault s front value c z (unknown name h n) e = run_tail front name value c (body_begun s (meaning s) name (name_body name h)) e
 run_fault s front value c z (bad body b h n) e = run_tail front body value c (body_begun s (meaning s) body b) e
-run_fault s front value c z (no_reference run d x b h) e = absurd (let y : is_html s ≡ false = ap is_html x in not_both_ways (is_html s) z y)
+run_fault s front value c z (no_reference run d x b h) e = absurd (let y : is_html_syntax s ≡ false = ap is_html_syntax x in not_both_ways (is_html_syntax s) z y)
 
-pub html_fault : (s : Syntax) (value : Chars) (c : ℕ) {kind : Kind} {faulty : Chars} → is_html s ≡ true → ValueFault s kind faulty → faulty ≡ value ++ c ∷ [] → HtmlFault value c
+pub html_fault : (s : Syntax) (value : Chars) (c : ℕ) {kind : Kind} {faulty : Chars} → is_html_syntax s ≡ true → ValueFault s kind faulty → faulty ≡ value ++ c ∷ [] → HtmlFault value c
 html_fault s value c z (in_run front run f) e = run_fault s front value c z f e
-html_fault s value c z (less_than front x) e = absurd (let y : is_html s ≡ false = ap is_html x in not_both_ways (is_html s) z y)
+html_fault s value c z (less_than front x) e = absurd (let y : is_html_syntax s ≡ false = ap is_html_syntax x in not_both_ways (is_html_syntax s) z y)
 
 -- no fault of HTML is decided at a value's first character
-pub no_first : (s : Syntax) (c : ℕ) (kind : Kind) → is_html s ≡ true → ValueFault s kind (c ∷ []) → ⊥
+pub no_first : (s : Syntax) (c : ℕ) (kind : Kind) → is_html_syntax s ≡ true → ValueFault s kind (c ∷ []) → ⊥
 no_first s c kind z f = let d = html_fault s [] c z f refl in no_end d.tail.init d.tail.c d.tail.are

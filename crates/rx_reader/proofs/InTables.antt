@@ -4,7 +4,7 @@ use Rattle.rx_reader.specs.declared.phases.TagPhase.{TagPhase}
 use Rattle.rx_reader.specs.declared.phases.TagPhase.TheVariants as phase
 use Rattle.rx_reader.specs.declared.phases.TagAction.{TagAction}
 use Rattle.rx_reader.specs.declared.phases.TagAction.TheVariants as action
-use Rattle.rx_reader.specs.Tables.{Move, move_of, is_html}
+use Rattle.rx_reader.specs.Tables.{Move, move_of, is_html_syntax}
 use Rattle.rx_reader.proofs.Classes.{of_one}
 use Rattle.rx_reader.proofs.Moves.{is_among, is_value_phase}
 
@@ -47,7 +47,7 @@ is_steady p (Some (q, action.AddKey)) = is_among q
 -- Values without quotes are HTML's.
 abbrev pub Quoted : Syntax → TagPhase → Move → Type 0
 Quoted s p None = Unit {0}
-Quoted s p (Some (q, a)) = is_unquoted_phase q ≡ true → (is_unquoted_phase p ≡ true) ⊎ (is_html s ≡ true)
+Quoted s p (Some (q, a)) = is_unquoted_phase q ≡ true → (is_unquoted_phase p ≡ true) ⊎ (is_html_syntax s ≡ true)
 
 -- Between attributes no other character stands directly before.
 abbrev pub Outer : ℕ → Move → Type 0
@@ -56,7 +56,7 @@ Outer c (Some (q, a)) = is_between_phase q ≡ true → is_outer c ≡ true
 
 -- Outside a value's phase only HTML begins a value so.
 abbrev pub Valued : Syntax → TagPhase → Move → Type 0
-Valued s p (Some (q, action.Value)) = (is_value_phase p ≡ true) ⊎ (is_html s ≡ true)
+Valued s p (Some (q, action.Value)) = (is_value_phase p ≡ true) ⊎ (is_html_syntax s ≡ true)
 Valued s p _ = Unit {0}
 
 -- all that holds of a move
@@ -82,7 +82,7 @@ module _ (s : Syntax) (c : ℕ) where
   between o h u v = record { steady = h; quoted = λ k. absurd (not_both_ways _ k u); outer = λ _. o; valued = v }
 
   -- to a value without quotes
-  unquoted : {p : TagPhase} → (is_unquoted_phase p ≡ true) ⊎ (is_html s ≡ true) → Valued s p (Some (phase.Unquoted, action.Value)) → Holds s c p (Some (phase.Unquoted, action.Value))
+  unquoted : {p : TagPhase} → (is_unquoted_phase p ≡ true) ⊎ (is_html_syntax s ≡ true) → Valued s p (Some (phase.Unquoted, action.Value)) → Holds s c p (Some (phase.Unquoted, action.Value))
   unquoted u v = record { steady = refl; quoted = λ _. u; outer = λ k. absurd (cc); valued = v }
 
   white_outer : is_white_space c ≡ true → is_outer c ≡ true
@@ -106,23 +106,23 @@ module _ (s : Syntax) (c : ℕ) where
       choose (is_white_space c) _ _ (λ e. between (white_outer e) refl refl tt) (λ _. choose (c == solidus) _ _ (λ e. between (slash_outer e) refl refl tt)
       (λ _. choose (c == greater_than_sign) _ _ (λ _. within refl refl refl tt) (λ _. choose (begins_attribute s c) _ _ (λ _. within refl refl refl tt) (λ _. none))))
   holds phase.Solidus =
-      choose (c == greater_than_sign) _ _ (λ _. within refl refl refl tt) (λ _. choose (is_html s) _ _
+      choose (c == greater_than_sign) _ _ (λ _. within refl refl refl tt) (λ _. choose (is_html_syntax s) _ _
       (λ _. choose (is_white_space c) _ _ (λ e. between (white_outer e) refl refl tt) (λ _. choose (c == solidus) _ _ (λ e. between (slash_outer e) refl refl tt)
       (λ _. choose (c == greater_than_sign) _ _ (λ _. within refl refl refl tt) (λ _. choose (begins_attribute s c) _ _ (λ _. within refl refl refl tt) (λ _. none)))))
       (λ _. none))
   holds phase.Key =
       choose (is_white_space c) _ _ (λ e. between (white_outer e) refl refl tt) (λ _. choose (c == equals_sign) _ _ (λ _. within refl refl refl tt)
-      (λ _. choose (c == solidus) _ _ (λ e. choose (is_html s) _ _ (λ _. between (slash_outer e) refl refl tt) (λ _. none))
-      (λ _. choose (c == greater_than_sign) _ _ (λ _. choose (is_html s) _ _ (λ _. within refl refl refl tt) (λ _. none))
+      (λ _. choose (c == solidus) _ _ (λ e. choose (is_html_syntax s) _ _ (λ _. between (slash_outer e) refl refl tt) (λ _. none))
+      (λ _. choose (c == greater_than_sign) _ _ (λ _. choose (is_html_syntax s) _ _ (λ _. within refl refl refl tt) (λ _. none))
       (λ _. choose (continues_attribute s c) _ _ (λ _. within refl refl refl tt) (λ _. none)))))
   holds phase.AfterKey =
-      choose (is_white_space c) _ _ (λ e. between (white_outer e) refl refl tt) (λ _. choose (c == equals_sign) _ _ (λ _. within refl refl refl tt) (λ _. choose (is_html s) _ _
+      choose (is_white_space c) _ _ (λ e. between (white_outer e) refl refl tt) (λ _. choose (c == equals_sign) _ _ (λ _. within refl refl refl tt) (λ _. choose (is_html_syntax s) _ _
       (λ _. choose (c == solidus) _ _ (λ e. between (slash_outer e) refl refl tt)
       (λ _. choose (c == greater_than_sign) _ _ (λ _. within refl refl refl tt) (λ _. choose (begins_attribute s c) _ _ (λ _. within refl refl refl tt) (λ _. none))))
       (λ _. none)))
   holds phase.BeforeValue =
       choose (is_white_space c) _ _ (λ _. within refl refl refl tt) (λ _. choose (c == quotation_mark) _ _ (λ _. within refl refl refl tt) (λ _. choose (c == apostrophe) _ _ (λ _. within refl refl refl tt)
-      (λ _. choose (c == greater_than_sign) _ _ (λ _. none) (λ _. choose (is_html s) _ _ (λ e. unquoted (inr e) (inr e)) (λ _. none)))))
+      (λ _. choose (c == greater_than_sign) _ _ (λ _. none) (λ _. choose (is_html_syntax s) _ _ (λ e. unquoted (inr e) (inr e)) (λ _. none)))))
   holds phase.DoubleQuoted = choose (c == quotation_mark) _ _ (λ e. between (double_outer e) refl refl tt) (λ _. within refl refl refl (inl refl))
   holds phase.SingleQuoted = choose (c == apostrophe) _ _ (λ e. between (single_outer e) refl refl tt) (λ _. within refl refl refl (inl refl))
   holds phase.Unquoted =
@@ -130,7 +130,7 @@ module _ (s : Syntax) (c : ℕ) where
   holds phase.AfterValue =
       choose (is_white_space c) _ _ (λ e. between (white_outer e) refl refl tt) (λ _. choose (c == solidus) _ _ (λ e. between (slash_outer e) refl refl tt)
       (λ _. choose (c == greater_than_sign) _ _ (λ _. within refl refl refl tt)
-      (λ _. choose (is_html s) _ _ (λ _. choose (begins_attribute s c) _ _ (λ _. within refl refl refl tt) (λ _. none)) (λ _. none))))
+      (λ _. choose (is_html_syntax s) _ _ (λ _. choose (begins_attribute s c) _ _ (λ _. within refl refl refl tt) (λ _. none)) (λ _. none))))
   holds phase.EndStart = choose (begins_tag s c) _ _ (λ _. within refl refl refl tt) (λ _. none)
   holds phase.EndName =
       choose (is_white_space c) _ _ (λ _. within refl refl refl tt) (λ _. choose (c == greater_than_sign) _ _ (λ _. within refl refl refl tt)

@@ -4,7 +4,7 @@ use Rattle.rx_grammar.specs.declared.faults.Kind.{Kind}
 use Rattle.rx_reader.specs.declared.phases.TagPhase.{TagPhase}
 use Rattle.rx_reader.specs.declared.phases.TagPhase.TheVariants as phase
 use Rattle.rx_reader.specs.declared.phases.TagAction.TheVariants as action
-use Rattle.rx_reader.specs.Tables.{Move, move_of, is_last, is_html}
+use Rattle.rx_reader.specs.Tables.{Move, move_of, is_last, is_html_syntax}
 use Rattle.rx_reader.proofs.Moves.{is_among, is_value_phase}
 use Rattle.rx_reader.proofs.Sound.{html_is}
 use Rattle.rx_reader.proofs.ValueFaults.{of_quote, snoc_last}
@@ -27,7 +27,7 @@ pub record Well (s : Syntax) (front : Chars) (w : Written) : Type 0 where
   pub are : front ≡ before ++ w.value
   pub settled : is_value_phase w.phase ≡ false → w.value ≡ []
   pub bare : is_among w.phase ≡ false → w.attributes ≡ []
-  pub html : is_unquoted_phase w.phase ≡ true → is_html s ≡ true
+  pub html : is_unquoted_phase w.phase ≡ true → is_html_syntax s ≡ true
   pub outer : is_between_phase w.phase ≡ true → EndsOuter front
 
 or_not : (a b : Bool) → (a || not b) ≡ true → a ≡ false → b ≡ false
@@ -35,7 +35,7 @@ or_not true b h k = absurd (cc)
 or_not false b h k = untrue b h
 
 module _ (s : Syntax) (front : Chars) (w : Written) (d : Well s front w) (c : ℕ) where
-  html_still : (q : TagPhase) → (is_unquoted_phase q ≡ true → (is_unquoted_phase w.phase ≡ true) ⊎ (is_html s ≡ true)) → is_unquoted_phase q ≡ true → is_html s ≡ true
+  html_still : (q : TagPhase) → (is_unquoted_phase q ≡ true → (is_unquoted_phase w.phase ≡ true) ⊎ (is_html_syntax s ≡ true)) → is_unquoted_phase q ≡ true → is_html_syntax s ≡ true
   html_still q f u = elim (f u) [ inl e ↦ d.html e | inr e ↦ e ]
 
   outer_now : (q : TagPhase) → (is_between_phase q ≡ true → is_outer c ≡ true) → is_between_phase q ≡ true → EndsOuter (front ++ c ∷ [])
@@ -43,7 +43,7 @@ module _ (s : Syntax) (front : Chars) (w : Written) (d : Well s front w) (c : �
 
   -- no value is read before it or after it
   kept : (q : TagPhase) (name key : Chars) → (not (is_value_phase w.phase) && (is_among q || not (is_among w.phase))) ≡ true
-      → (is_unquoted_phase q ≡ true → (is_unquoted_phase w.phase ≡ true) ⊎ (is_html s ≡ true)) → (is_between_phase q ≡ true → is_outer c ≡ true) → Well s (front ++ c ∷ []) (at q name w.attributes key w.value)
+      → (is_unquoted_phase q ≡ true → (is_unquoted_phase w.phase ≡ true) ⊎ (is_html_syntax s ≡ true)) → (is_between_phase q ≡ true → is_outer c ≡ true) → Well s (front ++ c ∷ []) (at q name w.attributes key w.value)
   kept q name key h f g =
       let b = both (not (is_value_phase w.phase)) (is_among q || not (is_among w.phase)) h in
       let none : w.value ≡ [] = d.settled (untrue (is_value_phase w.phase) b.0) in
@@ -57,7 +57,7 @@ module _ (s : Syntax) (front : Chars) (w : Written) (d : Well s front w) (c : �
       }
 
   grown : (q : TagPhase) → (is_value_phase q && is_among q) ≡ true
-      → (is_unquoted_phase q ≡ true → (is_unquoted_phase w.phase ≡ true) ⊎ (is_html s ≡ true)) → (is_between_phase q ≡ true → is_outer c ≡ true) → Well s (front ++ c ∷ []) (at q w.name w.attributes w.key (w.value ++ c ∷ []))
+      → (is_unquoted_phase q ≡ true → (is_unquoted_phase w.phase ≡ true) ⊎ (is_html_syntax s ≡ true)) → (is_between_phase q ≡ true → is_outer c ≡ true) → Well s (front ++ c ∷ []) (at q w.name w.attributes w.key (w.value ++ c ∷ []))
   grown q h f g =
       let b = both (is_value_phase q) (is_among q) h in
       record {
@@ -70,7 +70,7 @@ module _ (s : Syntax) (front : Chars) (w : Written) (d : Well s front w) (c : �
       }
 
   ended : (q : TagPhase) (attributes : List Attribute) (key : Chars) → is_among q ≡ true
-      → (is_unquoted_phase q ≡ true → (is_unquoted_phase w.phase ≡ true) ⊎ (is_html s ≡ true)) → (is_between_phase q ≡ true → is_outer c ≡ true) → Well s (front ++ c ∷ []) (at q w.name attributes key [])
+      → (is_unquoted_phase q ≡ true → (is_unquoted_phase w.phase ≡ true) ⊎ (is_html_syntax s ≡ true)) → (is_between_phase q ≡ true → is_outer c ≡ true) → Well s (front ++ c ∷ []) (at q w.name attributes key [])
   ended q attributes key h f g = record {
     before = front ++ c ∷ [];
     are = sym (append-nil (front ++ c ∷ []));
@@ -108,7 +108,7 @@ module _ (s : Syntax) where
 pub record InPlace (s : Syntax) (w : Written) (value : Chars) (c : ℕ) : Type 0 where
   pub within : is_value_phase w.phase ≡ true
   pub value_is : w.value ≡ value
-  pub closes : is_html s ≡ true → c ≡ semicolon
+  pub closes : is_html_syntax s ≡ true → c ≡ semicolon
 
 value_in : (a b : Attribute) → a ≡ b → a.1 ≡ b.1
 value_in a b e = ap (λ x. x.1) e
@@ -152,7 +152,7 @@ record Completes (s : Syntax) (w : Written) : Type 0 where
   whole : is_last last.phase ≡ true
   attributes_are : last.attributes ≡ w.attributes ++ (w.key, w.value) ∷ []
 
-completes : (s : Syntax) (p : TagPhase) (name : Chars) (attributes : List Attribute) (key value : Chars) → is_value_phase p ≡ true → (is_unquoted_phase p ≡ true → is_html s ≡ true) → Completes s (at p name attributes key value)
+completes : (s : Syntax) (p : TagPhase) (name : Chars) (attributes : List Attribute) (key value : Chars) → is_value_phase p ≡ true → (is_unquoted_phase p ≡ true → is_html_syntax s ≡ true) → Completes s (at p name attributes key value)
 completes s phase.DoubleQuoted name attributes key value h f = record { end = 34 ∷ 62 ∷ []; ends = double; last = at phase.Opened name (attributes ++ (key, value) ∷ []) [] []; reads = refl; whole = refl; attributes_are = refl }
 completes s phase.SingleQuoted name attributes key value h f = record { end = 39 ∷ 62 ∷ []; ends = single; last = at phase.Opened name (attributes ++ (key, value) ∷ []) [] []; reads = refl; whole = refl; attributes_are = refl }
 completes s phase.Unquoted name attributes key value h f = record { end = 62 ∷ []; ends = no_mark (html_is s (f refl)); last = at phase.Opened name (attributes ++ (key, value) ∷ []) [] []; reads = refl; whole = refl; attributes_are = refl }

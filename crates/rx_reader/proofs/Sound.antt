@@ -4,7 +4,7 @@ use Rattle.rx_grammar.specs.Shapes.{ends_name, begins, is_quote, begins_attribut
 use Rattle.rx_reader.specs.declared.phases.TagPhase.{TagPhase}
 use Rattle.rx_reader.specs.declared.phases.TagPhase.TheVariants as phase
 use Rattle.rx_reader.specs.declared.phases.TagAction.TheVariants as action
-use Rattle.rx_reader.specs.Tables.{Move, go, move_of, is_html}
+use Rattle.rx_reader.specs.Tables.{Move, go, move_of, is_html_syntax}
 use Rattle.rx_reader.proofs.Classes.{of_one}
 use Rattle.rx_reader.proofs.Gaps.{InGap, Ends, all_snoc, then_snoc, gap_is_gap, gap_ends, gap_white, gap_slash, first_white, first_slash, first_end, slash_white, slash_slash, slash_gap, no_gap, whites_gap, all_of_some, some_snoc}
 use Rattle.rx_reader.proofs.Steps.{phase_by, Whole, nowhere, next, not_whole}
@@ -36,7 +36,7 @@ pub record Listed (s : Syntax) (text : Chars) : Type 0 where
 abbrev pub Sound : Syntax → Chars → Type 0
 Sound s text = (p : TagPhase) (since : Chars) → Since s p since → Whole s (Some p) text → Listed s (since ++ text)
 
-pub html_is : (s : Syntax) → is_html s ≡ true → s ≡ Html
+pub html_is : (s : Syntax) → is_html_syntax s ≡ true → s ≡ Html
 html_is Html h = refl
 html_is Xhtml h = absurd (cc)
 
@@ -107,13 +107,13 @@ module _ (s : Syntax) (text : Chars) (ih : Sound s text) (c : ℕ) where
       let G : Type 0 = Listed s (gap ++ c ∷ text) in
       split (At G) (c == greater_than_sign) _ _
       (λ e g. on phase.Emptied gap (of_one (λ x. Since s phase.Emptied (gap ++ x ∷ [])) c greater_than_sign e (emptied' gap i)) g)
-      (λ n. split (At G) (is_html s) _ _
+      (λ n. split (At G) (is_html_syntax s) _ _
       (λ e. let z = html_is s e in between gap _ (slash_white s z gap c i) (slash_slash s z gap i) (λ k. absurd (not_both_ways (c == greater_than_sign) k n)) (begun gap (slash_gap s z gap i)))
       (λ _ g. nowhere s text G g)) h
 
   from_after_value : Whole s (phase_by (move_of s phase.AfterValue c)) text → Listed s (c ∷ text)
   from_after_value h =
-      between [] _ (first_white s c) (first_slash s) (λ _. first_end s) (λ g. split (At (Listed s (c ∷ text))) (is_html s) _ _
+      between [] _ (first_white s c) (first_slash s) (λ _. first_end s) (λ g. split (At (Listed s (c ∷ text))) (is_html_syntax s) _ _
       (λ e. begun [] (no_gap s (html_is s e)))
       (λ _ g. nowhere s text _ g) g) h
 
@@ -125,12 +125,12 @@ module _ (s : Syntax) (text : Chars) (ih : Sound s text) (c : ℕ) where
       (λ _. split (At G) (c == equals_sign) _ _
       (λ e g. goes phase.BeforeValue (gap ++ key) (gap ++ (key ++ c ∷ [])) (of_one (λ x. Since s phase.BeforeValue (gap ++ (key ++ x ∷ []))) c equals_sign e (before_value' gap key [] [] i n refl refl)) (simp append_assoc) g)
       (λ _. split (At G) (c == solidus) _ _
-      (λ e. split (At G) (is_html s) _ _
+      (λ e. split (At G) (is_html_syntax s) _ _
       (λ z g. subst (Listed s) (sym (append_assoc gap key (c ∷ text)))
       (ends phase.Solidus gap key [] [] (c ∷ []) ends_name i n (no_value (html_is s z)) (after_solidus' (c ∷ []) (of_one (λ x. Ends s (x ∷ []) true) c solidus e (first_slash s))) (of_one (λ x. begins ends_name (x ∷ text) ≡ true) c solidus e refl) g))
       (λ _ g. nowhere s text G g))
       (λ _. split (At G) (c == greater_than_sign) _ _
-      (λ e. split (At G) (is_html s) _ _
+      (λ e. split (At G) (is_html_syntax s) _ _
       (λ z g. subst (Listed s) (sym (append_assoc gap key (c ∷ text)))
       (ends phase.Opened gap key [] [] (c ∷ []) ends_name i n (no_value (html_is s z)) (of_one (λ x. Since s phase.Opened (x ∷ [])) c greater_than_sign e (opened' [] (first_end s))) (of_one (λ x. begins ends_name (x ∷ text) ≡ true) c greater_than_sign e refl) g))
       (λ _ g. nowhere s text G g))
@@ -147,7 +147,7 @@ module _ (s : Syntax) (text : Chars) (ih : Sound s text) (c : ℕ) where
       (λ e g. goes phase.AfterKey (gap ++ (key ++ white)) (gap ++ (key ++ (white ++ c ∷ []))) (after_key' gap key (white ++ c ∷ []) i n (some_snoc is_white_space white c all e)) (simp append_assoc) g)
       (λ _. split (At G) (c == equals_sign) _ _
       (λ e g. goes phase.BeforeValue (gap ++ (key ++ white)) (gap ++ (key ++ (white ++ c ∷ []))) (of_one (λ x. Since s phase.BeforeValue (gap ++ (key ++ (white ++ x ∷ [])))) c equals_sign e (before_value' gap key white [] i n all refl)) (simp append_assoc) g)
-      (λ _. split (At G) (is_html s) _ _
+      (λ _. split (At G) (is_html_syntax s) _ _
       (λ z. split (At G) (c == solidus) _ _
       (λ e g. subst (Listed s) regroup
       (ends phase.Solidus gap key [] [] (white ++ c ∷ []) ends_name i n (no_value (html_is s z))
@@ -178,7 +178,7 @@ module _ (s : Syntax) (text : Chars) (ih : Sound s text) (c : ℕ) where
       (λ e g. goes phase.SingleQuoted since grown (of_one (λ x. Since s phase.SingleQuoted (gap ++ (key ++ (white ++ equals_sign ∷ (after ++ x ∷ []))))) c apostrophe e (single' gap key white after [] i n w v refl)) regroup g)
       (λ na. split (At G) (c == greater_than_sign) _ _
       (λ e g. nowhere s text G g)
-      (λ ng. split (At G) (is_html s) _ _
+      (λ ng. split (At G) (is_html_syntax s) _ _
       (λ z g. goes phase.Unquoted since grown (unquoted' gap key white after (c ∷ []) (html_is s z) i n w v (unquoted_one c nw nq na ng)) regroup g)
       (λ _ g. nowhere s text G g))))) h
 

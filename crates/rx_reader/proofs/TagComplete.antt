@@ -5,7 +5,7 @@ use Rattle.rx_reader.specs.declared.phases.TagPhase.{TagPhase}
 use Rattle.rx_reader.specs.declared.phases.TagPhase.TheVariants as phase
 use Rattle.rx_reader.specs.declared.phases.TagAction.TheVariants as action
 use Rattle.rx_reader.specs.Tables.{Move, move_of, is_last}
-use Rattle.rx_reader.specs.Values.{no_value_yet, value_end, step_on, value_on, end_of}
+use Rattle.rx_reader.specs.Values.{no_value_yet, value_end, step_on, value_on, finished_value}
 use Rattle.rx_reader.specs.TagReader.{TagState, fresh, with_value, with_attribute, moved, moves_on, parts_of}
 use Rattle.rx_reader.proofs.Moves.{is_value_phase, InValue, in_value}
 use Rattle.rx_reader.proofs.InTables.{is_steady, holds}
@@ -84,13 +84,13 @@ module _ (s : Syntax) where
       value_known w c x a e =
           let v = value_at w.attributes (w.key, w.value ++ x.more) x.others more (subst (λ y. AreRead s means y more) x.is read) in
           known (value_on s means (Ok no_value_yet) (a ++ c ∷ [])) (λ k f.
-          let q : end_of s (value_on s means (Ok no_value_yet) (w.value ++ x.more)) ≡ Err k = ap (end_of s) (value-append s means (Ok no_value_yet) w.value x.more ∙ (ap (λ y. value_on s means (value_on s means (Ok no_value_yet) y) x.more) e ∙ (ap (λ o. value_on s means o x.more) f ∙ err_on s means k x.more))) in
+          let q : finished_value s (value_on s means (Ok no_value_yet) (w.value ++ x.more)) ≡ Err k = ap (finished_value s) (value-append s means (Ok no_value_yet) w.value x.more ∙ (ap (λ y. value_on s means (value_on s means (Ok no_value_yet) y) x.more) e ∙ (ap (λ o. value_on s means o x.more) f ∙ err_on s means k x.more))) in
           let r = text_complete s means [] v.denotes in cc)
 
       attribute_known : (w : Written) (st : TagState) → Matches s means w st → Grows (w.attributes ++ (w.key, w.value) ∷ []) last → Known (value_end s st.value)
       attribute_known w st k g =
           let v = value_at w.attributes (w.key, w.value) g.others more (subst (λ y. AreRead s means y more) (g.is ∙ append_assoc w.attributes ((w.key, w.value) ∷ []) g.others) read) in
-          known_as _ _ (ap (end_of s) (sym k.value_is) ∙ text_complete s means [] v.denotes)
+          known_as _ _ (ap (finished_value s) (sym k.value_is) ∙ text_complete s means [] v.denotes)
 
       move_known : (text : Chars) (w : Written) (st : TagState) (c : ℕ) → Matches s means w st → (m : Move) → is_steady w.phase m ≡ true → written_on s (written_by w c m) text ≡ Some last → Known (moved s means st c m)
       move_known text w st c k None v h = absurd (let e = written_none s text in cc)

@@ -2,7 +2,7 @@
 use Rattle.rx_grammar.proofs.Common.{◌≡◌, ℕ, true, false, List, [], ◌∷◌, ◌++◌, Option, Some, refl, ap, Chars, Syntax, Html, Xhtml, Attribute, is_quote, EndsValue, double, single, no_mark}
 use Rattle.rx_reader.specs.declared.phases.TagPhase.{TagPhase}
 use Rattle.rx_reader.specs.declared.phases.TagPhase.TheVariants as phase
-use Rattle.rx_reader.specs.Tables.{is_last, is_html}
+use Rattle.rx_reader.specs.Tables.{is_last, is_html_syntax}
 use Rattle.rx_reader.proofs.Moves.{is_among, is_value_phase}
 use Rattle.rx_reader.proofs.Steps.{Written, at, written_on, as_written, not_last}
 use Rattle.rx_reader.proofs.InTables.{is_between_phase, is_unquoted_phase}
@@ -11,8 +11,8 @@ use Rattle.rx_reader.proofs.InTables.{is_between_phase, is_unquoted_phase}
 pub data Ended (s : Syntax) (w : Written) (attributes : List Attribute) : Type 0 where
   in_this : is_value_phase w.phase ≡ true → w.attributes ++ (w.key, w.value) ∷ [] ≡ attributes → Ended s w attributes
   in_mark : (mark : ℕ) → is_quote mark ≡ true → is_unquoted_phase w.phase ≡ true → w.attributes ++ (w.key, w.value ++ mark ∷ []) ∷ [] ≡ attributes → Ended s w attributes
-  outside : is_html s ≡ true → is_between_phase w.phase ≡ true → Ended s w attributes
-  in_key : is_html s ≡ true → is_value_phase w.phase ≡ false → w.attributes ++ (w.key, w.value) ∷ [] ≡ attributes → Ended s w attributes
+  outside : is_html_syntax s ≡ true → is_between_phase w.phase ≡ true → Ended s w attributes
+  in_key : is_html_syntax s ≡ true → is_value_phase w.phase ≡ false → w.attributes ++ (w.key, w.value) ∷ [] ≡ attributes → Ended s w attributes
   in_name : is_among w.phase ≡ false → w.attributes ≡ attributes → Ended s w attributes
 
 attributes_of : (v last : Written) → ◌≡◌ {A = Option Written} (Some v) (Some last) → v.attributes ≡ last.attributes

@@ -5,8 +5,8 @@ use Rattle.rx_grammar.specs.declared.faults.Kind.TheVariants.{BadTag, RepeatedAt
 use Rattle.rx_reader.specs.declared.phases.TagPhase.{TagPhase}
 use Rattle.rx_reader.specs.declared.phases.TagPhase.TheVariants as phase
 use Rattle.rx_reader.specs.declared.phases.TagAction.TheVariants as action
-use Rattle.rx_reader.specs.Tables.{Move, go, move_of, is_last, is_html}
-use Rattle.rx_reader.specs.Values.{Value, no_value_yet, is_run, value_step, value_end, value_on}
+use Rattle.rx_reader.specs.Tables.{Move, go, move_of, is_last, is_html_syntax}
+use Rattle.rx_reader.specs.Values.{PartialValue, no_value_yet, is_run, value_step, value_end, value_on}
 use Rattle.rx_reader.specs.TagReader.{TagState, fresh, with_value, with_attribute, moved, tag_move, tag_move_on, moves_on, checked, tag_step, tag_on, parts_of}
 use Rattle.rx_reader.proofs.Classes.{of_one}
 use Rattle.rx_reader.proofs.Moves.{is_value_phase, InValue, in_value as in_value_phase}
@@ -22,17 +22,17 @@ use Rattle.rx_reader.proofs.InValues.{Well, well, in_place, is_in_value}
 use Rattle.rx_reader.proofs.HtmlFaults.{no_first}
 
 -- A run that is open stands at the end of a value's text.
-opens_step : (s : Syntax) (text rest : Chars) (c : ℕ) (value last : Value) (ih : (text : Chars) (value last : Value) → Opens text value → value_on s (meaning s) (Ok value) rest ≡ Ok last → Opens (text ++ rest) last) → Opens text value
-    → (o : Result Value Kind) → value_step s (meaning s) value c ≡ o → value_on s (meaning s) o rest ≡ Ok last → Opens (text ++ c ∷ rest) last
+opens_step : (s : Syntax) (text rest : Chars) (c : ℕ) (value last : PartialValue) (ih : (text : Chars) (value last : PartialValue) → Opens text value → value_on s (meaning s) (Ok value) rest ≡ Ok last → Opens (text ++ rest) last) → Opens text value
+    → (o : Result PartialValue Kind) → value_step s (meaning s) value c ≡ o → value_on s (meaning s) o rest ≡ Ok last → Opens (text ++ c ∷ rest) last
 opens_step s text rest c value last ih i (Err kind) e h = absurd (let k = err_on s (meaning s) kind rest in cc)
 opens_step s text rest c value last ih i (Ok v) e h =
     subst (λ t. Opens t last) (append_assoc text (c ∷ []) rest) (ih (text ++ c ∷ []) v last (subst (After s (text ++ c ∷ [])) e (steps_after s text value c i)) h)
 
-opens_on : (s : Syntax) (rest text : Chars) (value last : Value) → Opens text value → value_on s (meaning s) (Ok value) rest ≡ Ok last → Opens (text ++ rest) last
+opens_on : (s : Syntax) (rest text : Chars) (value last : PartialValue) → Opens text value → value_on s (meaning s) (Ok value) rest ≡ Ok last → Opens (text ++ rest) last
 opens_on s [] text value last i h = let e : value ≡ last = cc in subst (λ t. Opens t last) (sym (append-nil text)) (subst (Opens text) e i)
 opens_on s (c ∷ rest) text value last i h = opens_step s text rest c value last (opens_on s rest) i (value_step s (meaning s) value c) refl h
 
-opens : (s : Syntax) (text : Chars) (last : Value) → value_on s (meaning s) (Ok no_value_yet) text ≡ Ok last → Opens text last
+opens : (s : Syntax) (text : Chars) (last : PartialValue) → value_on s (meaning s) (Ok no_value_yet) text ≡ Ok last → Opens text last
 opens s text last h = opens_on s text [] no_value_yet last (λ r. absurd (cc)) h
 
 -- A quote or, in HTML, white space or `>` ends a value.
@@ -61,7 +61,7 @@ pub data Why (s : Syntax) (kind : Kind) (chars : Chars) : Type 0 where
 pub same_kind : {A : Type 0} (a b : Kind) → ◌≡◌ {A = Result A Kind} (Err a) (Err b) → a ≡ b
 same_kind a b h = cc
 
-html_ends : (s : Syntax) (value : Value) (kind : Kind) → is_html s ≡ true → value_end s value ≡ Err kind → ⊥
+html_ends : (s : Syntax) (value : PartialValue) (kind : Kind) → is_html_syntax s ≡ true → value_end s value ≡ Err kind → ⊥
 html_ends Html value kind z h = split (λ (r : Result Chars Kind). r ≡ Err kind → ⊥) (is_run value.phase) _ _ (λ _ g. cc) (λ _ g. cc) h
 html_ends Xhtml value kind z h = absurd (cc)
 
@@ -85,7 +85,7 @@ module _ (s : Syntax) (front : Chars) (st : TagState) (run : tag_on s (meaning s
     -- no value was begun
     no_end_fault : (kind : Kind) → is_value_phase st.phase ≡ false → value_end s st.value ≡ Err kind → ⊥
     no_end_fault kind n h =
-        let k : ◌≡◌ {A = Result Value Kind} (Ok no_value_yet) (Ok st.value) = ap (λ x. value_on s (meaning s) (Ok no_value_yet) x) (sym (no_value n)) ∙ f.matches.value_is in
+        let k : ◌≡◌ {A = Result PartialValue Kind} (Ok no_value_yet) (Ok st.value) = ap (λ x. value_on s (meaning s) (Ok no_value_yet) x) (sym (no_value n)) ∙ f.matches.value_is in
         let e : no_value_yet ≡ st.value = cc in
         let g : value_end s no_value_yet ≡ Err kind = ap (value_end s) e ∙ h in
         cc
@@ -109,7 +109,7 @@ module _ (s : Syntax) (front : Chars) (st : TagState) (run : tag_on s (meaning s
         twice (sym (same_kind RepeatedAttribute kind g)) (parts_of last) (tag_read s (meaning s) last b.0 (front ++ c ∷ []) all) b.1)
         (λ _ g. absurd (cc)) h
 
-    by_value : (kind : Kind) (q : TagPhase) → Valued s st.phase (Some (q, action.Value)) → (o : Result Value Kind) → value_step s (meaning s) st.value c ≡ o → tag_move s (meaning s) st c ≡ with_value q st o → checked s (with_value q st o) ≡ Err kind → Why s kind (front ++ c ∷ [])
+    by_value : (kind : Kind) (q : TagPhase) → Valued s st.phase (Some (q, action.Value)) → (o : Result PartialValue Kind) → value_step s (meaning s) st.value c ≡ o → tag_move s (meaning s) st c ≡ with_value q st o → checked s (with_value q st o) ≡ Err kind → Why s kind (front ++ c ∷ [])
     by_value kind q v (Ok value) e m h = twice_here kind _ m h
     by_value kind q v (Err k) e m h =
         let faulty : ValueFault s k (f.now.value ++ c ∷ []) = subst (After s (f.now.value ++ c ∷ [])) e (steps_after s f.now.value st.value c opened) in

@@ -6,10 +6,10 @@ use Rattle.rx_reader.specs.declared.phases.RunPhase.TheVariants as run
 use Rattle.rx_reader.specs.declared.phases.RunMove.{RunMove}
 use Rattle.rx_reader.specs.declared.phases.RunMove.TheVariants.{Goes, Closes, Stops}
 use Rattle.rx_reader.specs.Tables.{run_move}
-use Rattle.rx_reader.specs.Values.{Value, known_as, is_run, plain_step, meant, stopped, run_step, value_end, value_on, end_of}
+use Rattle.rx_reader.specs.Values.{PartialValue, known_as, is_run, plain_step, meant, stopped, run_step, value_end, value_on, finished_value}
 use Rattle.rx_reader.proofs.Runs.{RunIs, at_ampersand, in_name, at_hash, in_decimal, at_mark, in_hexadecimal, stops_back, closes_back, x_no_digit}
 
-abbrev pub at_run : RunPhase → Chars → Chars → Value
+abbrev pub at_run : RunPhase → Chars → Chars → PartialValue
 at_run p known text = record { phase = p; known = known; run = text }
 
 pub runs_is_run : {p : RunPhase} {text : Chars} → RunIs p text → is_run p ≡ true
@@ -130,18 +130,18 @@ module _ (s : Syntax) (means : Chars → Option ℕ) where
   kept_html Xhtml text rest i = absurd i
 
   -- a run that is text
-  kept_read : (known text rest : Chars) → IsKept s text rest → end_of s (value_on s means (Ok (known_as known)) (ampersand ∷ (text ++ rest))) ≡ end_of s (value_on s means (Ok (known_as (known ++ ampersand ∷ text))) rest)
+  kept_read : (known text rest : Chars) → IsKept s text rest → finished_value s (value_on s means (Ok (known_as known)) (ampersand ∷ (text ++ rest))) ≡ finished_value s (value_on s means (Ok (known_as (known ++ ampersand ∷ text))) rest)
   kept_read known text [] i =
       let z = kept_html s text [] i in
       let r = begun_run known text [] (kept_begun s text [] i) in
-      ap (λ x. end_of s x) r.reads ∙ end_is s z r.phase known text (runs_is_run r.is)
+      ap (λ x. finished_value s x) r.reads ∙ end_is s z r.phase known text (runs_is_run r.is)
   kept_read known text (c ∷ rest) i =
       let z = kept_html s text (c ∷ rest) i in
       let r = begun_run known text (c ∷ rest) (kept_begun s text (c ∷ rest) i) in
-      ap (λ x. end_of s x) (r.reads ∙ (run_moves r.phase known text rest c Stops (runs_is_run r.is) (stops_back c r.is (kept_stops s text c rest i)) ∙ ap (λ x. value_on s means x rest) (stopped_is s z r.phase known text c)))
+      ap (λ x. finished_value s x) (r.reads ∙ (run_moves r.phase known text rest c Stops (runs_is_run r.is) (stops_back c r.is (kept_stops s text c rest i)) ∙ ap (λ x. value_on s means x rest) (stopped_is s z r.phase known text c)))
 
-  pub complete : {text value : Chars} (known : Chars) → Denotes s means text value → end_of s (value_on s means (Ok (known_as known)) text) ≡ Ok (known ++ value)
+  pub complete : {text value : Chars} (known : Chars) → Denotes s means text value → finished_value s (value_on s means (Ok (known_as known)) text) ≡ Ok (known ++ value)
   complete known nothing = rw (append-nil known) refl
-  complete known (character {text = t} {value = v} c p k) = ap (λ x. end_of s x) (plain_char known t c p) ∙ (complete (known ++ value_char s c ∷ []) k ∙ ap Ok (append_assoc known (value_char s c ∷ []) v))
-  complete known (reference {text = t} {value = v} body c b m k) = ap (λ x. end_of s x) (reference_read known body t c b m) ∙ (complete (known ++ c ∷ []) k ∙ ap Ok (append_assoc known (c ∷ []) v))
+  complete known (character {text = t} {value = v} c p k) = ap (λ x. finished_value s x) (plain_char known t c p) ∙ (complete (known ++ value_char s c ∷ []) k ∙ ap Ok (append_assoc known (value_char s c ∷ []) v))
+  complete known (reference {text = t} {value = v} body c b m k) = ap (λ x. finished_value s x) (reference_read known body t c b m) ∙ (complete (known ++ c ∷ []) k ∙ ap Ok (append_assoc known (c ∷ []) v))
   complete known (kept {text = t} {value = v} run i k) = kept_read known run t i ∙ (complete (known ++ ampersand ∷ run) k ∙ ap Ok (append_assoc known (ampersand ∷ run) v))

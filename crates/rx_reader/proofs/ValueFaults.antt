@@ -7,7 +7,7 @@ use Rattle.rx_reader.specs.declared.phases.RunPhase.TheVariants as run
 use Rattle.rx_reader.specs.declared.phases.RunMove.{RunMove}
 use Rattle.rx_reader.specs.declared.phases.RunMove.TheVariants.{Goes, Closes, Stops}
 use Rattle.rx_reader.specs.Tables.{run_move}
-use Rattle.rx_reader.specs.Values.{Value, no_meaning, plain_step, meant, stopped, is_run, run_step, value_step, run_end, value_end}
+use Rattle.rx_reader.specs.Values.{PartialValue, no_meaning, plain_step, meant, stopped, is_run, run_step, value_step, run_end, value_end}
 use Rattle.rx_reader.proofs.Classes.{of_one}
 use Rattle.rx_reader.proofs.Runs.{RunIs, at_ampersand, in_name, at_hash, in_decimal, at_mark, in_hexadecimal, run_begun, goes_on, closes, stops}
 use Rattle.rx_reader.proofs.TextComplete.{at_run}
@@ -26,16 +26,16 @@ pub of_quote : (P : ℕ → Type 0) (c : ℕ) → is_quote c ≡ true → P 34 �
 of_quote P c h p q = elim (either (c == 34) (c == 39) h) [ inl e ↦ of_one P c 34 e p | inr e ↦ of_one P c 39 e q ]
 
 -- A value's text ends with `&` and the run that is open.
-pub record EndsInRun (text : Chars) (value : Value) : Type 0 where
+pub record EndsInRun (text : Chars) (value : PartialValue) : Type 0 where
   pub before : Chars
   pub are : text ≡ before ++ ampersand ∷ value.run
   pub is : RunIs value.phase value.run
 
-abbrev pub Opens : Chars → Value → Type 0
+abbrev pub Opens : Chars → PartialValue → Type 0
 Opens text value = is_run value.phase ≡ true → EndsInRun text value
 
 -- what one more character makes of a value, and of its end
-abbrev pub After : Syntax → Chars → Result Value Kind → Type 0
+abbrev pub After : Syntax → Chars → Result PartialValue Kind → Type 0
 After s text (Ok value) = Opens text value
 After s text (Err kind) = ValueFault s kind text
 
@@ -71,7 +71,7 @@ no_reference_fault s (in_decimal c text h k) b n = bad (35 ∷ c ∷ text) b ref
 no_reference_fault s (at_mark x h) b n = bad (35 ∷ x ∷ []) b refl n
 no_reference_fault s (in_hexadecimal x c text h k l) b n = bad (35 ∷ x ∷ c ∷ text) b refl n
 
-module _ (s : Syntax) (text : Chars) (value : Value) (d : EndsInRun text value) (c : ℕ) where
+module _ (s : Syntax) (text : Chars) (value : PartialValue) (d : EndsInRun text value) (c : ℕ) where
   more : text ++ c ∷ [] ≡ d.before ++ ampersand ∷ (value.run ++ c ∷ [])
   more = ap (λ t. t ++ c ∷ []) d.are ∙ append_assoc d.before (ampersand ∷ value.run) (c ∷ [])
 
@@ -108,11 +108,11 @@ module _ (s : Syntax) (text : Chars) (value : Value) (d : EndsInRun text value) 
   end_after Xhtml e q = in_this StrictText (no_reference value.run c (sym e) (run_begun d.is) (stops c d.is (quote_stops q)))
 
 -- what one more character makes of a value by the grammar
-pub steps_after : (s : Syntax) (text : Chars) (value : Value) (c : ℕ) → Opens text value → After s (text ++ c ∷ []) (value_step s (meaning s) value c)
+pub steps_after : (s : Syntax) (text : Chars) (value : PartialValue) (c : ℕ) → Opens text value → After s (text ++ c ∷ []) (value_step s (meaning s) value c)
 steps_after s text value c o =
     split (After s (text ++ c ∷ [])) (is_run value.phase) _ _ (λ e. run_after s text value (o e) c (run_move value.phase c) refl) (λ e. plain_after s text value.known c)
 
 -- and a quote that ends it
-pub ends_after : (s : Syntax) (text : Chars) (value : Value) (c : ℕ) → is_quote c ≡ true → Opens text value → AtEnd s (text ++ c ∷ []) (value_end s value)
+pub ends_after : (s : Syntax) (text : Chars) (value : PartialValue) (c : ℕ) → is_quote c ≡ true → Opens text value → AtEnd s (text ++ c ∷ []) (value_end s value)
 ends_after s text value c q o =
     split (AtEnd s (text ++ c ∷ [])) (is_run value.phase) _ _ (λ e. end_after s text value (o e) c s refl q) (λ e. tt)

@@ -5,7 +5,7 @@ use Rattle.rx_reader.specs.declared.phases.TagPhase.{TagPhase}
 use Rattle.rx_reader.specs.declared.phases.TagPhase.TheVariants as phase
 use Rattle.rx_reader.specs.declared.phases.TagAction.TheVariants as action
 use Rattle.rx_reader.specs.Tables.{Move, move_of, is_last}
-use Rattle.rx_reader.specs.Values.{Value, no_value_yet, value_step, value_end, step_on, value_on, end_of}
+use Rattle.rx_reader.specs.Values.{PartialValue, no_value_yet, value_step, value_end, step_on, value_on, finished_value}
 use Rattle.rx_reader.specs.TagReader.{TagState, fresh, with_value, with_attribute, moved, tag_move, moves_on, is_closing, is_emptied}
 use Rattle.rx_reader.proofs.Classes.{of_end, tag_char_named}
 use Rattle.rx_reader.proofs.Steps.{Written, at, nothing_written, written_by, written_step, written_on, as_written, phases_on, written_phases}
@@ -123,7 +123,7 @@ module _ (s : Syntax) (means : Chars → Option ℕ) where
   one_read (_ ∷ a) (_ ∷ b) x y r k d = (r.0, r.1, one_read a b x y r.2 k d)
   one_read _ _ x y r k d = absurd r
 
-  value_follows : (w : Written) (st st2 : TagState) (c : ℕ) (p : TagPhase) → Matches s means w st → (o : Result Value Kind) → value_step s means st.value c ≡ o → with_value p st o ≡ Ok st2
+  value_follows : (w : Written) (st st2 : TagState) (c : ℕ) (p : TagPhase) → Matches s means w st → (o : Result PartialValue Kind) → value_step s means st.value c ≡ o → with_value p st o ≡ Ok st2
       → Follows s means (Some (at p w.name w.attributes w.key (w.value ++ c ∷ []))) st2
   value_follows w st st2 c p m (Err kind) e h = absurd (cc)
   value_follows w st st2 c p m (Ok v) e h =
@@ -133,7 +133,7 @@ module _ (s : Syntax) (means : Chars → Option ℕ) where
       → Follows s means (Some (at p w.name (w.attributes ++ (w.key, w.value) ∷ []) next [])) st2
   attribute_follows w st st2 key next p m k (Err kind) e h = absurd (cc)
   attribute_follows w st st2 key next p m k (Ok v) e h =
-      so _ _ st2 h (record { phase_is = refl; name_is = m.name_is; attributes_are = one_read w.attributes st.attributes (w.key, w.value) (st.key, v) m.attributes_are m.key_is (text_sound s means w.value v (ap (end_of s) m.value_is ∙ e)); key_is = k; value_is = refl })
+      so _ _ st2 h (record { phase_is = refl; name_is = m.name_is; attributes_are = one_read w.attributes st.attributes (w.key, w.value) (st.key, v) m.attributes_are m.key_is (text_sound s means w.value v (ap (finished_value s) m.value_is ∙ e)); key_is = k; value_is = refl })
 
   pub follows_by : (w : Written) (st st2 : TagState) (c : ℕ) (m : Move) → Matches s means w st → moved s means st c m ≡ Ok st2 → Follows s means (written_by w c m) st2
   follows_by w st st2 c None m h = absurd (cc)

@@ -18,18 +18,18 @@ abbrev pub go : TagPhase → TagAction → Move
 go phase action = Some (phase, action)
 
 -- HTML has names without a value, values without quotes, and `/` anywhere between attributes.
-abbrev pub is_html : Syntax → Bool
-is_html Html = true
-is_html Xhtml = false
+abbrev pub is_html_syntax : Syntax → Bool
+is_html_syntax Html = true
+is_html_syntax Xhtml = false
 
 abbrev pub only_in_html : Syntax → Move → Move
-only_in_html syntax move = if is_html syntax then move else None
+only_in_html syntax move = if is_html_syntax syntax then move else None
 
 abbrev pub at_start : Syntax → ℕ → Move
 at_start syntax c = if begins_tag syntax c then go phase.Name action.Name else if c == solidus then go phase.EndStart action.Skip else None
 
-abbrev pub in_name : Syntax → ℕ → Move
-in_name syntax c =
+abbrev pub in_attribute_name : Syntax → ℕ → Move
+in_attribute_name syntax c =
     if is_white_space c then go phase.Gap action.Skip else if c == solidus then go phase.Solidus action.Skip
     else if c == greater_than_sign then go phase.Opened action.Skip else if is_tag_char syntax c then go phase.Name action.Name else None
 
@@ -83,7 +83,7 @@ in_end_gap c = if is_white_space c then go phase.EndGap action.Skip else if c ==
 -- the phase after a character and what it does, or none where no tag goes on so
 abbrev pub move_of : Syntax → TagPhase → ℕ → Move
 move_of syntax phase.Start c = at_start syntax c
-move_of syntax phase.Name c = in_name syntax c
+move_of syntax phase.Name c = in_attribute_name syntax c
 move_of syntax phase.Gap c = in_gap syntax c
 move_of syntax phase.Solidus c = after_solidus syntax c
 move_of syntax phase.Key c = in_key syntax c

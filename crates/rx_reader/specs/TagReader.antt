@@ -8,7 +8,7 @@ use Rattle.rx_reader.specs.declared.phases.TagPhase.TheVariants as phase
 use Rattle.rx_reader.specs.declared.phases.TagAction.{TagAction}
 use Rattle.rx_reader.specs.declared.phases.TagAction.TheVariants as action
 use Rattle.rx_reader.specs.Tables.{move_of, is_last}
-use Rattle.rx_reader.specs.Values.{Value, no_value_yet, value_step, value_end}
+use Rattle.rx_reader.specs.Values.{PartialValue, no_value_yet, value_step, value_end}
 
 -- A tag so far: its name, its attributes that are whole, and the name and the value of the one that is read.
 pub record TagState : Type 0 where
@@ -16,12 +16,12 @@ pub record TagState : Type 0 where
   pub name : Chars
   pub attributes : List Attribute
   pub key : Chars
-  pub value : Value
+  pub value : PartialValue
 
 abbrev pub fresh : TagState
 fresh = record { phase = phase.Start; name = []; attributes = []; key = []; value = no_value_yet }
 
-abbrev pub with_value : TagPhase → TagState → Result Value Kind → Result TagState Kind
+abbrev pub with_value : TagPhase → TagState → Result PartialValue Kind → Result TagState Kind
 with_value p s (Ok value) = Ok (record { phase = p; name = s.name; attributes = s.attributes; key = s.key; value = value })
 with_value p s (Err kind) = Err kind
 

@@ -1,5 +1,5 @@
 -- The buffer of a path that grows, from its bytes.
-use Rattle.rx_refs.proofs.Common.{◌≡◌, ◌≢◌, ◌∙◌, ℕ, ◌+◌, Bool, true, false, List, [], ◌∷◌, ◌++◌, Result, Ok, Err, length, take, drop, sym, ap, refl, arith, length-append, list_all, bytes_decides, chars-nil, encodes-chars, chars-append, IsUtf8-append, IsUtf8-take, IsUtf8-drop, IsCharBoundary-from_drop, Chars, is_ascii, ascii-same, ascii-chars, by_test, OnOk, codes, chars, IsUtf8, IsCharBoundary, encode_utf8_all, take-append-drop, take_all, append_assoc, drop_all, take-append-le, drop-append-le, take-take, drop-take, is, Grown, slashed, pushed, cut_back, after_segment, after_last}
+use Rattle.rx_refs.proofs.Common.{◌≡◌, ◌≢◌, ◌∙◌, ℕ, ◌+◌, Bool, true, false, List, [], ◌∷◌, ◌++◌, Result, Ok, Err, length, take, drop, sym, ap, refl, arith, length-append, list_all, bytes_decides, chars-nil, encodes-chars, chars-append, IsUtf8-append, IsUtf8-take, IsUtf8-drop, IsCharBoundary-from_drop, Chars, is_ascii, ascii-same, ascii-chars, by_test, OnOk, codes, chars, IsUtf8, IsCharBoundary, encode_utf8_all, take-append-drop, take_all, append_assoc, drop_all, take-append-le, drop-append-le, take-take, drop-take, is, Grown, slashed, segment_pushed, cut_back, after_segment, after_last}
 
 abbrev pub shown : List ℕ → ℕ → Bool → Grown
 shown bs start slash = record { front = chars (take start bs); path = chars (drop start bs); slash = slash }
@@ -49,20 +49,20 @@ pub becomes : {E : Type 0} (r : Result (Unit {0}) E) (new a b : Grown) → a ≡
 becomes (Ok x) new a b e h = h ∙ e
 becomes (Err x) new a b e h = tt
 
-pub last-one : (grown : Grown) (text : Chars) → text ≡ 46 ∷ [] → pushed grown (chars []) ≡ after_last grown text
-last-one grown text e = ap (pushed grown) chars-nil ∙ sym (ap (after_last grown) e)
+pub last-one : (grown : Grown) (text : Chars) → text ≡ 46 ∷ [] → segment_pushed grown (chars []) ≡ after_last grown text
+last-one grown text e = ap (segment_pushed grown) chars-nil ∙ sym (ap (after_last grown) e)
 
-pub last-two : (grown : Grown) (text : Chars) → text ≡ 46 ∷ 46 ∷ [] → pushed (cut_back grown) (chars []) ≡ after_last grown text
-last-two grown text e = ap (pushed (cut_back grown)) chars-nil ∙ sym (ap (after_last grown) e)
+pub last-two : (grown : Grown) (text : Chars) → text ≡ 46 ∷ 46 ∷ [] → segment_pushed (cut_back grown) (chars []) ≡ after_last grown text
+last-two grown text e = ap (segment_pushed (cut_back grown)) chars-nil ∙ sym (ap (after_last grown) e)
 
-pub last-other : (grown : Grown) (text : Chars) → is (codes ".") text ≡ false → is (codes "..") text ≡ false → pushed grown text ≡ after_last grown text
+pub last-other : (grown : Grown) (text : Chars) → is (codes ".") text ≡ false → is (codes "..") text ≡ false → segment_pushed grown text ≡ after_last grown text
 last-other grown text one two = rw (one, two) refl
 
 pub segment-other : (grown : Grown) (text : Chars) → is (codes ".") text ≡ false → is (codes "..") text ≡ false → grown_of grown.front (grown.path ++ slashed grown.slash text) true ≡ after_segment grown text
 segment-other grown text one two = rw (one, two) refl
 
-pub pushed-slash : (grown : Grown) (text : Chars) → grown.slash ≡ true → grown_of grown.front ((grown.path ++ chars (47 ∷ [])) ++ text) grown.slash ≡ pushed grown text
+pub pushed-slash : (grown : Grown) (text : Chars) → grown.slash ≡ true → grown_of grown.front ((grown.path ++ chars (47 ∷ [])) ++ text) grown.slash ≡ segment_pushed grown text
 pushed-slash grown text e = ap (λ (x : Chars). grown_of grown.front ((grown.path ++ x) ++ text) grown.slash) (ascii-chars (47 ∷ []) refl) ∙ ap (λ (x : Chars). grown_of grown.front x grown.slash) (append_assoc grown.path (47 ∷ []) text ∙ rw e refl)
 
-pub pushed-bare : (grown : Grown) (text : Chars) → grown.slash ≡ false → grown_of grown.front (grown.path ++ text) grown.slash ≡ pushed grown text
+pub pushed-bare : (grown : Grown) (text : Chars) → grown.slash ≡ false → grown_of grown.front (grown.path ++ text) grown.slash ≡ segment_pushed grown text
 pushed-bare grown text e = rw e refl

@@ -1,5 +1,5 @@
 -- Plain references, from the bytes that the code looks at.
-use Rattle.rx_refs.proofs.Common.{◌≡◌, ◌∙◌, ℕ, suc, ◌+◌, ◌<◌, ◌≤◌, ◌/◌, Bool, true, false, List, [], ◌∷◌, ◌++◌, length, take, drop, get_or, sym, ap, subst, refl, arith, Option, Some, None, length-append, not, ◌==◌, ◌||◌, ◌&&◌, if◌then◌else◌, IfSome, codes, nat_lt, list_all, and_parts, and_from, or_parts, nat_tests, list_all-append, chars-nil, encodes-chars, chars-append, chars_past_char, encode_ascii, IsUtf8-past_char, IsCharBoundary-from_drop, is_ascii, Chars, begins_with, is_forbidden, has_forbidden, IsIri, by_test, untrue, ascii-chars, ascii-utf8, and-false, take-append_seam, drop-append_seam, chars, IsUtf8, IsCharBoundary, encode_utf8_all, take-append-drop, length-take, append_assoc, append-nil, drop_more, before, hierarchical_part, holds, through_last_slash, no_dots, ends_path, is_plain_from, is_plain, is_site_byte, is_scheme_byte, IsSchemeEnd, IsSite, IsSplit, folder_from, is_one_slash, begins_path, keeps_all, fragment_from, begins_query, path_end_from, IsWhole}
+use Rattle.rx_refs.proofs.Common.{◌≡◌, ◌∙◌, ℕ, suc, ◌+◌, ◌<◌, ◌≤◌, ◌/◌, Bool, true, false, List, [], ◌∷◌, ◌++◌, length, take, drop, get_or, sym, ap, subst, refl, arith, Option, Some, None, length-append, not, ◌==◌, ◌||◌, ◌&&◌, if◌then◌else◌, IfSome, codes, nat_lt, list_all, and_parts, and_from, or_parts, nat_tests, list_all-append, chars-nil, encodes-chars, chars-append, chars_past_char, encode_ascii, IsUtf8-past_char, IsCharBoundary-from_drop, is_ascii, Chars, begins_with, is_forbidden, has_forbidden, IsIri, by_test, untrue, ascii-chars, ascii-utf8, and-false, take-append_seam, drop-append_seam, chars, IsUtf8, IsCharBoundary, encode_utf8_all, take-append-drop, length-take, append_assoc, append-nil, drop_more, before, hierarchical_part, holds, through_last_slash, no_dots, ends_path, is_plain_from, is_plain_reference, is_site_byte, is_scheme_byte, IsSchemeEnd, IsSite, IsSplit, folder_from, is_one_slash, begins_path, keeps_all, fragment_from, begins_query, path_end_from, IsPlainAbsolute}
 use lib.Utf8.{encode, next}
 use Rattle.rx_refs.specs.Resolve.{resolved}
 use Rattle.rx_refs.specs.declared.plain.Split.{Split}
@@ -363,8 +363,8 @@ Kept bs ref n = IsCharBoundary bs n × (resolved (chars bs) (chars ref) ≡ char
 kept : (bs ref xs ys front : List ℕ) (n : ℕ) → IsFront bs xs ys n → resolved (chars bs) (chars ref) ≡ front ++ chars ref → front ≡ xs → Kept bs ref n
 kept bs ref xs ys front n f means e = (f.boundary, means ∙ ap (λ (x : Chars). x ++ chars ref) (e ∙ sym f.front))
 
-module _ (bs ref r : List ℕ) (e : r ≡ ref) (u : IsUtf8 bs) (v : IsUtf8 ref) (iri : IsIri (chars bs)) (is_plain_ref : true ≡ is_plain r) where
-  plain : is_plain (chars ref) ≡ true
+module _ (bs ref r : List ℕ) (e : r ≡ ref) (u : IsUtf8 bs) (v : IsUtf8 ref) (iri : IsIri (chars bs)) (is_plain_ref : true ≡ is_plain_reference r) where
+  plain : is_plain_reference (chars ref) ≡ true
   plain = told-plain true ref r e v is_plain_ref
 
   -- an empty reference, and a fragment
@@ -415,8 +415,8 @@ module _ (bs ref r : List ℕ) (e : r ≡ ref) (u : IsUtf8 bs) (v : IsUtf8 ref) 
 
 -- A reference that stands alone
 
-pub whole-chars : (ref r : List ℕ) (t : Bool) → r ≡ ref → IsUtf8 ref → (t ≡ true → IsWhole r) → t ≡ true → (base : Chars) → resolved base (chars ref) ≡ chars ref
+pub whole-chars : (ref r : List ℕ) (t : Bool) → r ≡ ref → IsUtf8 ref → (t ≡ true → IsPlainAbsolute r) → t ≡ true → (base : Chars) → resolved base (chars ref) ≡ chars ref
 whole-chars ref r t e u h is base =
-    let w : IsWhole ref = subst IsWhole e (h is) in
+    let w : IsPlainAbsolute ref = subst IsPlainAbsolute e (h is) in
     let f = colon-front ref w.scheme w.rest (length w.scheme + 1) w.whole refl w.before_colon u in
     plain-whole base (chars ref) w.scheme (chars w.rest) f.1 (scheme-ascii w.scheme w.before_colon).1 w.is_scheme (told-plain false w.rest w.rest refl (f.0).behind (sym w.is_rest))

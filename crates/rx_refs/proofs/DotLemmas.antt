@@ -1,5 +1,5 @@
 -- The loop of 5.2.4, segment by segment.
-use Rattle.rx_refs.proofs.Common.{◌≡◌, ◌∙◌, ℕ, zero, suc, ◌≤◌, Bool, true, false, [], ◌∷◌, ◌++◌, length, drop, sym, ap, refl, arith, ◌==◌, ◌||◌, if◌then◌else◌, codes, bytes_decides, nat_tests, Chars, begins_with, by_test, and-false, length-drop, append-nil, append_assoc, from_first, is, holds, without_last_segment, Grown, slashed, pushed, cut_back, after_segment, after_last, Takes}
+use Rattle.rx_refs.proofs.Common.{◌≡◌, ◌∙◌, ℕ, zero, suc, ◌≤◌, Bool, true, false, [], ◌∷◌, ◌++◌, length, drop, sym, ap, refl, arith, ◌==◌, ◌||◌, if◌then◌else◌, codes, bytes_decides, nat_tests, Chars, begins_with, by_test, and-false, length-drop, append-nil, append_assoc, from_first, is, holds, without_last_segment, Grown, slashed, segment_pushed, cut_back, after_segment, after_last, Takes}
 use Rattle.rx_refs.specs.Dots.{Buffers, step, after_steps, without_dots}
 use Rattle.rx_refs.specs.Segments.{buffers_at, reduced}
 use Rattle.rx_refs.proofs.PartLemmas.{cut-at, uncut}
@@ -168,7 +168,7 @@ one-last true output = refl
 one-last false output = sym (append-nil output)
 
 two-last : (front : Chars) (slash : Bool) (output : Chars)
-    → reduced (at (slashed slash (46 ∷ 46 ∷ [])) output) ≡ (pushed (cut_back (record { front = front; path = output; slash = slash })) []).path
+    → reduced (at (slashed slash (46 ∷ 46 ∷ [])) output) ≡ (segment_pushed (cut_back (record { front = front; path = output; slash = slash })) []).path
 unfolding step reduced
 two-last front true output = append-nil (without_last_segment output ++ 47 ∷ [])
 two-last front false output = refl

@@ -1,5 +1,5 @@
 -- What a plain reference means.
-use Rattle.rx_refs.proofs.Common.{◌≡◌, ◌∙◌, ℕ, zero, suc, ◌≤◌, Bool, true, false, [], ◌∷◌, ◌++◌, drop, length, reverse, sym, ap, refl, arith, Option, Some, None, not, ◌==◌, ◌||◌, ◌&&◌, if◌then◌else◌, is_some, codes, list_all, and_parts, and_from, or_parts, nat_tests, list_any-append, option_or, is_white_space, Chars, begins_with, is_empty, trimmed, without_leading_space, is_scheme_char, is_scheme, has_scheme, is_forbidden, has_forbidden, IsIri, begins_with_letter, by_test, untrue, append_cancel_left, reverse-append, reverse-reverse, append_assoc, append-nil, Components, before, from_first, behind, scheme_of, behind_scheme, hierarchical_part, authority_of, path_of, delimited, recomposed, holds, through_last_slash, relative_path, cleaned, no_dots, ends_path, is_plain_from, is_plain, begins_path, keeps_all, begins_query, begins-front, same_char}
+use Rattle.rx_refs.proofs.Common.{◌≡◌, ◌∙◌, ℕ, zero, suc, ◌≤◌, Bool, true, false, [], ◌∷◌, ◌++◌, drop, length, reverse, sym, ap, refl, arith, Option, Some, None, not, ◌==◌, ◌||◌, ◌&&◌, if◌then◌else◌, is_some, codes, list_all, and_parts, and_from, or_parts, nat_tests, list_any-append, option_or, is_white_space, Chars, begins_with, is_empty, trimmed, without_leading_space, is_scheme_char, is_scheme, has_scheme, is_forbidden, has_forbidden, IsIri, begins_with_letter, by_test, untrue, append_cancel_left, reverse-append, reverse-reverse, append_assoc, append-nil, Components, before, from_first, behind, scheme_of, behind_scheme, hierarchical_part, authority_of, path_of, delimited, recomposed, holds, through_last_slash, relative_path, cleaned, no_dots, ends_path, is_plain_from, is_plain_reference, begins_path, keeps_all, begins_query, begins-front, same_char}
 use Rattle.rx_refs.specs.Parts.{query_of, components_of}
 use Rattle.rx_refs.specs.Dots.{step, without_dots}
 use Rattle.rx_refs.specs.Segments.{reduced}
@@ -215,7 +215,7 @@ no-slashes (c ∷ text) h =
           by_test (d == 63) (λ t. rw (a, t) refl) (λ b.
           by_test (47 == d) (λ t. let g : true ≡ false = rw t at h in absurd (cc g)) (λ t. rw (a, b, t) refl)))
 
-plain-parts : (text : Chars) → is_plain text ≡ true → begins_with (codes "//") text ≡ false → HasRelative (components_of text) (hierarchical_part text)
+plain-parts : (text : Chars) → is_plain_reference text ≡ true → begins_with (codes "//") text ≡ false → HasRelative (components_of text) (hierarchical_part text)
 unfolding components_of
 plain-parts text h k =
     let s = scheme-none text (plain-scheme true text h) in
@@ -273,7 +273,7 @@ same-target base d text scheme authority rest pre path iri b parts some relative
           append_cancel_left d ((path ++ q) ++ f) rest (sym regrouped ∙ e)
 
 -- a reference that begins with one `/`
-pub plain-rooted : (base text scheme authority rest : Chars) → IsIri base → IsCutBase base scheme authority rest → is_plain text ≡ true → begins_with (codes "//") text ≡ false
+pub plain-rooted : (base text scheme authority rest : Chars) → IsIri base → IsCutBase base scheme authority rest → is_plain_reference text ≡ true → begins_with (codes "//") text ≡ false
     → begins_with (codes "/") text ≡ true → resolved base text ≡ (scheme ++ 58 ∷ 47 ∷ 47 ∷ authority) ++ text
 plain-rooted base text scheme authority rest iri b plain slashes rooted =
     let front : Chars = scheme ++ 58 ∷ 47 ∷ 47 ∷ authority in
@@ -295,7 +295,7 @@ path-begins (c ∷ text) h =
     (rw (q.0, q.1) refl, rw (q.0, q.1, other) refl, rw other refl)
 
 -- a reference that begins with a segment
-pub plain-relative : (base text scheme authority rest : Chars) → IsIri base → IsCutBase base scheme authority rest → is_plain text ≡ true → begins_path text ≡ true
+pub plain-relative : (base text scheme authority rest : Chars) → IsIri base → IsCutBase base scheme authority rest → is_plain_reference text ≡ true → begins_path text ≡ true
     → no_dots true (47 ∷ hierarchical_part rest) ≡ true → resolved base text ≡ ((scheme ++ 58 ∷ 47 ∷ 47 ∷ authority) ++ through_last_slash (47 ∷ hierarchical_part rest)) ++ text
 plain-relative base text scheme authority rest iri b plain begins flat =
     let front : Chars = scheme ++ 58 ∷ 47 ∷ 47 ∷ authority in
@@ -362,7 +362,7 @@ record Same (base text : Chars) : Type 0 where
   own : delimited (λ (x : Chars). codes "?" ++ x) (components_of text).query ++ delimited (λ (x : Chars). codes "#" ++ x) (components_of text).fragment ≡ text
   query : (components_of text).query ≡ query_of text
 
-same-path : (base text : Chars) → is_plain text ≡ true → hierarchical_part text ≡ [] → begins_with (codes "//") text ≡ false → Same base text
+same-path : (base text : Chars) → is_plain_reference text ≡ true → hierarchical_part text ≡ [] → begins_with (codes "//") text ≡ false → Same base text
 unfolding components_of
 same-path base text plain empty slashes =
     let r = components_of text in
@@ -381,7 +381,7 @@ keeps : (text : Chars) → keeps_all text ≡ true → (hierarchical_part text �
 keeps [] k = (refl, refl, refl)
 keeps (c ∷ text) k = let s = same_char c 35 k in rw s (refl, refl, refl)
 
-pub plain-same : (base text : Chars) → IsIri base → is_plain text ≡ true → keeps_all text ≡ true → resolved base text ≡ before 35 base ++ text
+pub plain-same : (base text : Chars) → IsIri base → is_plain_reference text ≡ true → keeps_all text ≡ true → resolved base text ≡ before 35 base ++ text
 plain-same base text iri plain k =
     let b = components_of base in
     let r = components_of text in
@@ -405,7 +405,7 @@ or-some : (a b : Option Chars) → is_some a ≡ true → option_or a b ≡ a
 or-some None b h = absurd (cc h)
 or-some (Some a) b h = refl
 
-pub plain-query : (base text : Chars) → IsIri base → is_plain text ≡ true → begins_query text ≡ true → resolved base text ≡ hierarchical_part base ++ text
+pub plain-query : (base text : Chars) → IsIri base → is_plain_reference text ≡ true → begins_query text ≡ true → resolved base text ≡ hierarchical_part base ++ text
 plain-query base text iri plain k =
     let b = components_of base in
     let r = components_of text in
@@ -444,13 +444,13 @@ plain-whole base text front rest whole lacks scheme plain =
 
 -- a reference that begins with an authority
 
-has-authority : (text : Chars) → is_plain text ≡ true → begins_with (codes "//") text ≡ true → is_some (components_of text).authority ≡ true
+has-authority : (text : Chars) → is_plain_reference text ≡ true → begins_with (codes "//") text ≡ true → is_some (components_of text).authority ≡ true
 unfolding components_of
 has-authority text h k = ap (λ (x : Chars). is_some (authority_of (hierarchical_part x))) (scheme-none text (plain-scheme true text h)).1 ∙ go text k where
   go : (text : Chars) → begins_with (codes "//") text ≡ true → is_some (authority_of (hierarchical_part text)) ≡ true
   go text k = let r = begins-front (codes "//") text k in ap (λ (x : Chars). is_some (authority_of (hierarchical_part x))) r.1
 
-pub plain-network : (base text front rest : Chars) → IsIri base → base ≡ front ++ 58 ∷ rest → holds 58 front ≡ false → is_plain text ≡ true → begins_with (codes "//") text ≡ true
+pub plain-network : (base text front rest : Chars) → IsIri base → base ≡ front ++ 58 ∷ rest → holds 58 front ≡ false → is_plain_reference text ≡ true → begins_with (codes "//") text ≡ true
     → resolved base text ≡ (front ++ 58 ∷ []) ++ text
 unfolding components_of
 plain-network base text front rest iri whole lacks plain slashes =

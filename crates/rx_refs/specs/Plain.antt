@@ -23,8 +23,8 @@ is_plain_from first start (c ∷ text) =
     else if start && c == full_stop then false
     else is_plain_from (if c == solidus then false else first) (c == solidus) text
 
-abbrev pub is_plain : Chars → Bool
-is_plain text = is_plain_from true true text
+abbrev pub is_plain_reference : Chars → Bool
+is_plain_reference text = is_plain_from true true text
 
 -- a byte before the path of a base
 abbrev pub is_site_byte : ℕ → Bool
@@ -103,7 +103,7 @@ path_end_from here (c ∷ text) =
     else path_end_from (suc here) text
 
 -- A reference with a scheme that stands alone: behind its first `:` nothing is worked out.
-pub record IsWhole (text : List ℕ) : Type 0 where
+pub record IsPlainAbsolute (text : List ℕ) : Type 0 where
   pub scheme : List ℕ
   pub rest : List ℕ
   pub whole : text ≡ scheme ++ 58 ∷ rest
@@ -122,16 +122,16 @@ ups zero path = path
 ups (suc k) path = ups k (without_last_segment path)
 
 -- how many `../` stand at the front
-abbrev pub count_of : List ℕ → ℕ
-count_of [] = 0
-count_of (a ∷ []) = 0
-count_of (a ∷ b ∷ []) = 0
-count_of (a ∷ b ∷ c ∷ text) = if a == 46 && (b == 46 && c == 47) then suc (count_of text) else 0
+abbrev pub parent_steps : List ℕ → ℕ
+parent_steps [] = 0
+parent_steps (a ∷ []) = 0
+parent_steps (a ∷ b ∷ []) = 0
+parent_steps (a ∷ b ∷ c ∷ text) = if a == 46 && (b == 46 && c == 47) then suc (parent_steps text) else 0
 
 -- the place of the last `/`, where `last` is the one so far
-abbrev pub last_from : ℕ → ℕ → List ℕ → ℕ
-last_from here last [] = last
-last_from here last (c ∷ text) = last_from (suc here) (if c == solidus then here else last) text
+abbrev pub last_solidus : ℕ → ℕ → List ℕ → ℕ
+last_solidus here last [] = last
+last_solidus here last (c ∷ text) = last_solidus (suc here) (if c == solidus then here else last) text
 
 abbrev pub begins_climb : List ℕ → Bool
 begins_climb [] = false

@@ -19,8 +19,8 @@ buffers_at grown rest = record { input = slashed grown.slash rest; output = grow
 unfoldable pub reduced : Buffers → Chars
 reduced buffers = (after_steps (length buffers.input) buffers).output
 
-abbrev pub pushed : Grown → Chars → Grown
-pushed grown segment = record grown { path = grown.path ++ slashed grown.slash segment }
+abbrev pub segment_pushed : Grown → Chars → Grown
+segment_pushed grown segment = record grown { path = grown.path ++ slashed grown.slash segment }
 
 abbrev pub cut_back : Grown → Grown
 cut_back grown = record grown { path = if grown.slash then without_last_segment grown.path else grown.path }
@@ -35,9 +35,9 @@ after_segment grown segment =
 -- after the last segment
 abbrev pub after_last : Grown → Chars → Grown
 after_last grown segment =
-    if is (codes ".") segment then pushed grown (codes "")
-    else if is (codes "..") segment then pushed (cut_back grown) (codes "")
-    else pushed grown segment
+    if is (codes ".") segment then segment_pushed grown (codes "")
+    else if is (codes "..") segment then segment_pushed (cut_back grown) (codes "")
+    else segment_pushed grown segment
 
 -- `text` was read: with any rest behind it, the loop gives from the one what it gives from the other
 pub record Takes (old new : Grown) (text : Chars) : Type 0 where

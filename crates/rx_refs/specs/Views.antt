@@ -33,8 +33,8 @@ seen_target target = record {
 }
 
 -- the new buffer is the old one with this text behind it
-abbrev pub Grows : {Z : Type 0} → String Z → String Z → Chars → Type 0
-Grows old new more = chars (string_bytes new) ≡ chars (string_bytes old) ++ more
+abbrev pub GainsText : {Z : Type 0} → String Z → String Z → Chars → Type 0
+GainsText old new more = chars (string_bytes new) ≡ chars (string_bytes old) ++ more
 
 -- what stood there is the front of what stands there now
 abbrev pub Keeps : List ℕ → List ℕ → Type 0

@@ -3,8 +3,8 @@ ghost use Rattle.std.specs.Prelude.{◌≡◌, [], ◌++◌, IfOk, OnOk, false, 
 ghost use Rattle.rx_terms.specs.Common.{chars, solidus};
 ghost use Rattle.rx_refs.specs.Dots.{holds, without_dots, without_last_segment};
 ghost use Rattle.rx_refs.specs.Resolve.{behind_base, through_last_slash};
-ghost use Rattle.rx_refs.specs.Segments.{Takes, pushed, cut_back, after_segment, after_last};
-ghost use Rattle.rx_refs.specs.Views.{Grows};
+ghost use Rattle.rx_refs.specs.Segments.{Takes, segment_pushed, cut_back, after_segment, after_last};
+ghost use Rattle.rx_refs.specs.Views.{GainsText};
 
 use crate::slices::{last_slash, split_once};
 use rx_terms::NoMemory;
@@ -12,7 +12,7 @@ use std::marker::Model;
 
 /// Adds the path without its dot segments at the end of the text.
 pub fn push_path(text: String, path: &str) -> Result<String, NoMemory>
-    ensures { IfOk result (λ whole. Grows text whole (without_dots (chars path.now))) }
+    ensures { IfOk result (λ whole. GainsText text whole (without_dots (chars path.now))) }
 {
     let mut grown = GrownPath::behind(text);
     let last = grown.push_closed(path)?;
@@ -22,7 +22,7 @@ pub fn push_path(text: String, path: &str) -> Result<String, NoMemory>
 
 /// The same of the path that begins with the base's up to its last `/` (section 5.2.3).
 pub fn push_merged_path(text: String, base: &str, path: &str) -> Result<String, NoMemory>
-    ensures { IfOk result (λ whole. Grows text whole (behind_base (chars base.now) (chars path.now))) }
+    ensures { IfOk result (λ whole. GainsText text whole (behind_base (chars base.now) (chars path.now))) }
 {
     let mut grown = GrownPath::behind(text);
     let _left_out = grown.push_closed(base)?;
@@ -114,7 +114,7 @@ impl GrownPath {
     }
 
     fn push(&mut self, segment: &str) -> Result<(), NoMemory>
-        ensures { OnOk result (self.new ≡ pushed self.old (chars segment.now)) }
+        ensures { OnOk result (self.new ≡ segment_pushed self.old (chars segment.now)) }
     {
         if self.slash {
             self.push_text("/")?;

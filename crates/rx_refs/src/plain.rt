@@ -2,7 +2,7 @@
 ghost use Rattle.std.specs.Prelude.{◌≡◌, ◌≤◌, ◌*◌, ◌&&◌, not, ◌++◌, codes, true, false, length, take, drop, IfSome};
 ghost use Rattle.rx_terms.specs.Common.{list_all, is_forbidden, has_forbidden, IsIri, is_scheme_char, begins_with_letter, is_scheme, chars, IsCharBoundary, Chars, begins_with};
 ghost use Rattle.rx_refs.specs.Resolve.{resolved};
-ghost use Rattle.rx_refs.specs.Plain.{is_plain, begins_climb, ups, count_of, last_from, is_plain_from, keeps_all, fragment_from, begins_query, path_end_from, IsWhole, is_scheme_byte, is_site_byte, IsSchemeEnd, IsSite, IsSplit, folder_from, is_one_slash, begins_path};
+ghost use Rattle.rx_refs.specs.Plain.{is_plain_reference, begins_climb, ups, parent_steps, last_solidus, is_plain_from, keeps_all, fragment_from, begins_query, path_end_from, IsPlainAbsolute, is_scheme_byte, is_site_byte, IsSchemeEnd, IsSite, IsSplit, folder_from, is_one_slash, begins_path};
 
 /// Whether no IRI has the character of this byte.
 #[inline(always)]
@@ -33,7 +33,7 @@ fn has_forbidden(bytes: &[u8]) -> bool
 /// Whether the reference has no scheme, no dot segment and no character that is forbidden, as far as that is seen in one
 /// pass.
 fn is_plain(text: &[u8]) -> bool
-    ensures { result ≡ is_plain text.now }
+    ensures { result ≡ is_plain_reference text.now }
 {
     is_plain_from(text, true)
 }
@@ -300,7 +300,7 @@ fn front(bytes: &[u8], count: usize) -> &[u8]
 
 /// Whether the reference has a scheme and means itself, as far as that is seen in one pass.
 fn is_whole(text: &[u8]) -> bool
-    ensures { result ≡ true → IsWhole text.now }
+    ensures { result ≡ true → IsPlainAbsolute text.now }
 {
     let colon = scheme_length(text);
     if colon >= text.len() || text[colon] != b':' {
@@ -382,7 +382,7 @@ fn is_climb(text: &[u8]) -> bool
 
 /// How many `../` stand at the front.
 fn count_climbs(text: &[u8]) -> usize
-    ensures exact { result ≡ count_of text.now }
+    ensures exact { result ≡ parent_steps text.now }
     ensures fits { result * 3 ≤ length text.now }
 {
     let mut count = 0;
@@ -396,7 +396,7 @@ fn count_climbs(text: &[u8]) -> usize
 
 /// Where the last `/` stands, or 0 where there is none.
 fn last_slash(path: &[u8]) -> usize
-    ensures exact { result ≡ last_from 0 0 path.now }
+    ensures exact { result ≡ last_solidus 0 0 path.now }
     ensures fits { result ≤ length path.now }
 {
     let mut last = 0;

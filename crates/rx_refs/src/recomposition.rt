@@ -2,7 +2,7 @@
 ghost use Rattle.std.specs.Prelude.{◌≡◌, ◌++◌, IfOk, OnOk, codes, string_bytes};
 ghost use Rattle.rx_terms.specs.Common.{chars, seen_slice};
 ghost use Rattle.rx_refs.specs.Parts.{recomposed, delimited, behind_delimiter};
-ghost use Rattle.rx_refs.specs.Views.{seen_path, seen_target, Grows};
+ghost use Rattle.rx_refs.specs.Views.{seen_path, seen_target, GainsText};
 
 use crate::dots::{push_merged_path, push_path};
 use crate::targets::{Target, TargetPath};
@@ -23,7 +23,7 @@ pub fn recompose(alloc: Global, target: &Target<'_>) -> Result<String, NoMemory>
 }
 
 fn push_scheme(text: &mut String, scheme: Option<&str>) -> Result<(), NoMemory>
-    ensures { OnOk result (Grows text.old text.new (delimited (λ s. s ++ codes ":") (seen_slice scheme.entry))) }
+    ensures { OnOk result (GainsText text.old text.new (delimited (λ s. s ++ codes ":") (seen_slice scheme.entry))) }
 {
     let Some(scheme) = scheme else {
         return Ok(());
@@ -33,7 +33,7 @@ fn push_scheme(text: &mut String, scheme: Option<&str>) -> Result<(), NoMemory>
 }
 
 fn push_behind(text: &mut String, delimiter: &str, component: Option<&str>) -> Result<(), NoMemory>
-    ensures { OnOk result (Grows text.old text.new (behind_delimiter (chars delimiter.now) (seen_slice component.entry))) }
+    ensures { OnOk result (GainsText text.old text.new (behind_delimiter (chars delimiter.now) (seen_slice component.entry))) }
 {
     let Some(component) = component else {
         return Ok(());
@@ -43,14 +43,14 @@ fn push_behind(text: &mut String, delimiter: &str, component: Option<&str>) -> R
 }
 
 fn push_text(text: &mut String, piece: &str) -> Result<(), NoMemory>
-    ensures { OnOk result (Grows text.old text.new (chars piece.now)) }
+    ensures { OnOk result (GainsText text.old text.new (chars piece.now)) }
 {
     text.push_str(piece)?;
     Ok(())
 }
 
 fn push_target_path(text: String, path: TargetPath<'_>) -> Result<String, NoMemory>
-    ensures { IfOk result (λ whole. Grows text whole (seen_path path.entry)) }
+    ensures { IfOk result (λ whole. GainsText text whole (seen_path path.entry)) }
 {
     match path {
         TargetPath::Kept(path) => {

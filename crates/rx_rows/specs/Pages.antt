@@ -1,13 +1,14 @@
 -- How the pages of worked rows are read, and the text that is right for each.
 use Rattle.std.specs.Prelude.{ℕ, List, [], ◌∷◌, ◌++◌, None, Result, Ok, Err, codes, flat_map, bytes_eq, encode_utf8_all, if◌then◌else◌}
-use Rattle.rx_terms.specs.Common.{decimal, String, Chars}
+use Rattle.rx_terms.specs.Common.{String, Chars}
 use Rattle.rx_chars.specs.Named.{named_table}
-use Rattle.rx_grammar.specs.Kinds.{kind_name}
+use Rattle.rx_grammar.specs.Kinds.{refused_line}
 use Rattle.rx_grammar.specs.declared.limits.Limits.{Limits}
 use Rattle.rx_grammar.specs.declared.faults.Fault.{Fault}
 use Rattle.rx_grammar.specs.Common.{Syntax, Html, StartTag, Tree, end, element, text}
 use Rattle.rx_rdfa.specs.Common.{standard, with_facts, base_of, written}
-use Rattle.rx_rdfa.specs.Tree.{Tag, Nodes}
+use Rattle.rx_grammar.specs.Trees.{Nodes}
+use Rattle.rx_rdfa.specs.Tree.{ElementTag}
 use Rattle.rx_rdfa.specs.Pages.{tags_of}
 use Rattle.rx_rdfa.specs.Resources.{resources}
 use Rattle.rx_rdfa.specs.Inherited.{below}
@@ -15,7 +16,7 @@ use Rattle.rx_rdfa.specs.Times.{time_kind}
 use Rattle.rx_rdfa.specs.Element.{start_of, end_of as element_end}
 use Rattle.rx_rdfa.specs.Lists.{entries_at, cells}
 use Rattle.rx_pages.specs.Nesting.{told_trees}
-use Rattle.rx_pages.specs.PageReader.{Progress, page_read, end_of}
+use Rattle.rx_pages.specs.PageReader.{Progress, page_read, page_ended}
 use Rattle.rx_refs.specs.Parts.{components_of}
 use Rattle.rx_refs.specs.Dots.{step, without_dots}
 use Rattle.rx_refs.specs.Resolve.{target, resolved}
@@ -35,9 +36,6 @@ abbrev pub first_tree : List Tree → Tree
 first_tree [] = end
 first_tree (tree ∷ trees) = tree
 
-abbrev pub refused_text : Fault → List ℕ
-refused_text fault = codes "refused: " ++ kind_name fault.kind ++ codes " at byte " ++ decimal fault.at ++ codes " in token " ++ decimal fault.token ++ codes "\n"
-
 -- a start tag with its attributes' values, in brackets
 abbrev pub tag_text : StartTag → Chars
 tag_text t =
@@ -52,10 +50,10 @@ nodes_text (text chars rest) = chars ++ nodes_text rest
 -- what is said of the page's tree, or its fault: a page that is refused has no other text
 abbrev pub said_of : (Tree → List ℕ) → Result Progress Fault → List ℕ
 said_of tell (Ok progress) = tell (first_tree (told_trees progress.told))
-said_of tell (Err fault) = refused_text fault
+said_of tell (Err fault) = refused_line fault
 
 abbrev pub page_text : (Tree → List ℕ) → Syntax → Limits → List ℕ → List ℕ
-page_text tell syntax limits page = said_of tell (end_of (page_read syntax limits page))
+page_text tell syntax limits page = said_of tell (page_ended (page_read syntax limits page))
 
 -- what a page is read as
 unfoldable pub tree_text : Syntax → Limits → List ℕ → List ℕ
@@ -66,7 +64,7 @@ tree_text syntax limits page = page_text (λ tree. encode_utf8_all (nodes_text t
 abbrev pub here : Chars
 here = codes "http://h.example/d"
 
-abbrev pub triples_of : Chars → Nodes Tag → Chars
+abbrev pub triples_of : Chars → Nodes ElementTag → Chars
 triples_of address tree = nquads (written (base_of tree address) (with_facts standard [] tree)) None
 
 -- the N-Quads of what is written of a page in HTML at an address, in order
@@ -76,7 +74,7 @@ triples_text address page = page_text (λ tree. encode_utf8_all (triples_of addr
 
 abbrev pub outcome_text : Outcome → List ℕ
 outcome_text (Given value) = compact_text value ++ codes "\n"
-outcome_text (Refused fault) = refused_text fault
+outcome_text (Refused fault) = refused_line fault
 
 -- the JSON of the items of a page in HTML, or their fault
 unfoldable pub items_text : Bounds → Chars → List ℕ

@@ -1,10 +1,10 @@
 -- Start tags that are refused for what they mean, and some that aren't.
 use Rattle.std.specs.Prelude.{◌≡◌, List, [], ◌∷◌, Option, Some, None, map, codes}
-use Rattle.rx_rdfa.specs.Common.{String, standard, row_of, facts, Refusal, RelativeVocab, XmlLiteral, HtmlLiteral, refusal}
+use Rattle.rx_rdfa.specs.Common.{String, standard, row_chars, facts, Refusal, RelativeVocab, XmlLiteral, HtmlLiteral, refusal}
 
 -- why a start tag with these attributes is refused, if it is
 unfoldable pub refused : List (String × String) → Option Refusal
-refused attributes = refusal (facts standard [] (record { name = codes "p"; attributes = map row_of attributes }))
+refused attributes = refusal (facts standard [] (record { name = codes "p"; attributes = map row_chars attributes }))
 
 pub record RefusalsHold : Type 0 where
   pub relative_vocabulary : refused (("vocab", " terms/ ") ∷ []) ≡ Some RelativeVocab

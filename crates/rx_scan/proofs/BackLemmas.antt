@@ -1,6 +1,6 @@
 -- What is spelled from where nothing is unfinished is scanned so, byte by byte, and what is faulty is refused so.
-use Rattle.rx_pages.proofs.Common.{◌≡◌, ◌≢◌, ◌∙◌, inl, inr, ⊎_elim, ℕ, ◌+◌, ◌-◌, ◌≤◌, ◌<◌, Bool, true, false, List, [], ◌∷◌, ◌++◌, refl, sym, ap, subst, length, append_assoc, append-nil, Ok, arith, Option, Some, None, Result, Err, nat_le, ◌&&◌, ◌||◌, ◌==◌, not, codes, all_scalars, encode, encodes, scalar, length-encode, and_parts, cond-true, cond-false, and_from, ne_eqb, and_left, by_test, or-false, and-false, greater_than_sign, Chars, length-append, Syntax, More, Char, Bad, answer_of, BeginsCharacter, IsCharacter, Entry, carriage_return, as_line_end, values, Item, is_literal, is_strict_literal, has_no_nul, is_known_tag, Faulty, Html, Xhtml, Token, tag, doctype, Line, Phase, before, answer_is, character_of_form, Content, Limits, GoesOn, Verdict, ended, refused, verdict, ReadAs, at_last, at_next, pending_goes, item_content, no_literal, Utf8Step, Fault, Kind, values_append, token_of_item, scan_fault, Fits, AllFit, no_section_end, no_more, one, Spelled, next_of, last_from, right_bracket, whole, goes_on, completed, item_first, item_last, IsKept, eqb-false, ◌⊎◌, if◌then◌else◌}
-use Rattle.rx_scan.proofs.Common.{begins, begins_tag, Spot, Scanning, Scanned, first_of, starts_at, token_at, entering, is_too_long, told, read_char, read_answer, read_byte, with_items, scan_on, scan_from, fault_in, item_of, is_doctype, told_first, with_item, after_token, read_entry, occurs, passes, len_positive, no_mark, no_return, two_lasts, AllBefore, has_character, ends_in_return, Spells, IsBetween, Left, is_over, Enters, FitsWith, IsNoToken, Refuses, page_too_long, not_utf8, nul, tag_too_long, known_too_long, decided, section_end, late_doctype, FirstFault, ScansWhatIsSpelled, RefusesWhatIsFaulty, goes_at, not_whole, reads_each, known_more, MayCome, AllInside, brackets_behind, TagVerdict, a_tag, known_verdict, item_is, ended_kept}
+use Rattle.rx_pages.proofs.Common.{◌≡◌, ◌≢◌, ◌∙◌, inl, inr, ⊎_elim, ℕ, ◌+◌, ◌-◌, ◌≤◌, ◌<◌, Bool, true, false, List, [], ◌∷◌, ◌++◌, refl, sym, ap, subst, length, append_assoc, append-nil, Ok, arith, Option, Some, None, Result, Err, nat_le, ◌&&◌, ◌||◌, ◌==◌, not, codes, all_scalars, encode, encodes, scalar, length-encode, and_parts, cond-true, cond-false, and_from, ne_eqb, and_left, by_test, or-false, and-false, greater_than_sign, Chars, length-append, Syntax, More, Char, Bad, answer_of, BeginsCharacter, IsCharacter, PlacedCharacter, carriage_return, as_line_end, values, Item, is_literal, is_strict_literal, has_no_nul, is_known_tag, Faulty, Html, Xhtml, Token, tag, doctype, Line, Phase, before, answer_is, character_of_form, Content, Limits, CharactersGoOn, Verdict, ended, refused, verdict, ReadAs, at_last, at_next, pending_goes, item_content, no_literal, Utf8Step, Fault, Kind, values_append, token_of_item, scan_fault, Fits, AllFit, no_section_end, no_more, one, Spelled, next_of, last_from, right_bracket, whole, goes_on, completed, item_first, item_last, IsKept, eqb-false, ◌⊎◌, if◌then◌else◌}
+use Rattle.rx_scan.proofs.Common.{begins, begins_tag, Spot, Scanning, Scanned, first_of, starts_at, token_at, entering, is_too_long, told, read_char, read_answer, read_byte, with_items, scan_on, scan_from, fault_in, item_of_run, is_doctype, told_first, with_item, after_token, read_entry, occurs, passes, len_positive, no_mark, no_return, two_lasts, AllBefore, has_character, ends_in_return, ScanSpells, TokensAreWhole, Left, is_over, EntersCharacter, FitsWith, IsNoToken, RefusesByte, page_too_long, not_utf8, nul, tag_too_long, known_too_long, decided, section_end, late_doctype, FirstFault, ScansWhatIsSpelled, RefusesWhatIsFaulty, goes_at, not_whole, reads_each, known_more, MayCome, AllInside, brackets_behind, TagVerdict, a_tag, known_verdict, item_is, ended_kept}
 use Rattle.rx_pages.proofs.FrontRead.{mark_some, line_feed_some, nul_entry}
 use Rattle.rx_pages.proofs.ByteSteps.{not_le, not_long, is_le}
 use Rattle.rx_scan.proofs.SpelledLemmas.{inside_snoc, come_snoc, first_known, passing_is, none_entered, same_content, all_so, whole_verdict, brackets_snoc, kept_flags, first_snoc, Fine, Has, has_of, told_of, state_is, size_more, state, brackets, entries_of, pass, new_entry, new_entries, entries_are, next_is}
@@ -65,7 +65,7 @@ scalars_last [] c h = (refl, (and_parts (scalar c) true h).0)
 scalars_last (d ∷ cs) c h =
     let p = and_parts (scalar d) (all_scalars (cs ++ c ∷ [])) h in let r = scalars_last cs c p.1 in (and_from (scalar d) (all_scalars cs) p.0 r.0, r.1)
 
-no_nul_last : (es : List Entry) (e : Entry) → has_no_nul (es ++ e ∷ []) ≡ true → (has_no_nul es ≡ true) × (not (e.value == 0) ≡ true)
+no_nul_last : (es : List PlacedCharacter) (e : PlacedCharacter) → has_no_nul (es ++ e ∷ []) ≡ true → (has_no_nul es ≡ true) × (not (e.value == 0) ≡ true)
 no_nul_last [] e h = (refl, (and_parts (not (e.value == 0)) true h).0)
 no_nul_last (d ∷ es) e h =
     let p = and_parts (not (d.value == 0)) (has_no_nul (es ++ e ∷ [])) h in let r = no_nul_last es e p.1 in (and_from (not (d.value == 0)) (has_no_nul es) p.0 r.0, r.1)
@@ -83,22 +83,22 @@ no_tag _ token (a_tag t) h = cc
 no_tag _ token _ h = cc
 
 -- a token that is read before a character is read whatever comes next, or ends at it
-read_or_ended : (s : Syntax) (i : Content) (text : Chars) (c : ℕ) (token : Token) → ReadAs s i text (Some c) token → ReadAs s i text None token ⊎ (GoesOn s i [] text × (verdict s i text c ≡ ended token))
+read_or_ended : (s : Syntax) (i : Content) (text : Chars) (c : ℕ) (token : Token) → ReadAs s i text (Some c) token → ReadAs s i text None token ⊎ (CharactersGoOn s i [] text × (verdict s i text c ≡ ended token))
 read_or_ended s i _ _ _ (at_last f d t go v) = inl (at_last f d t go v)
 read_or_ended s i _ _ _ (at_next x d t go v) = inr (go, v)
 
 module _ (syntax : Syntax) where
   -- some tokens by the last one
-  data ByLast (next : Option ℕ) : List Entry → List Item → Type 0 where
+  data ByLast (next : Option ℕ) : List PlacedCharacter → List Item → Type 0 where
     nothing : ByLast next [] []
-    behind : (front : List Entry) (c : Entry) (r : List Entry) (others : List Item) (item : Item) → Spelled syntax front (Some c.value) others → spelling.Spells syntax item.content (values (c ∷ r)) next item.token
+    behind : (front : List PlacedCharacter) (c : PlacedCharacter) (r : List PlacedCharacter) (others : List Item) (item : Item) → Spelled syntax front (Some c.value) others → spelling.Spells syntax item.content (values (c ∷ r)) next item.token
         → item.first ≡ c.first → item.last ≡ last_from c.last r → ByLast next (front ++ (c ∷ r)) (others ++ item ∷ [])
 
-  by_last : {es : List Entry} {next : Option ℕ} {items : List Item} → Spelled syntax es next items → ByLast next es items
+  by_last : {es : List PlacedCharacter} {next : Option ℕ} {items : List Item} → Spelled syntax es next items → ByLast next es items
   by_last no_more = nothing
   by_last {next = next} (one c run rest item {items = items} sp f l more) = by rest items (by_last more) sp
     where
-      by : (rest : List Entry) (items : List Item) → ByLast next rest items → spelling.Spells syntax item.content (values (c ∷ run)) (next_of (values rest) next) item.token → ByLast next ((c ∷ run) ++ rest) (item ∷ items)
+      by : (rest : List PlacedCharacter) (items : List Item) → ByLast next rest items → spelling.Spells syntax item.content (values (c ∷ run)) (next_of (values rest) next) item.token → ByLast next ((c ∷ run) ++ rest) (item ∷ items)
       by _ _ nothing sp = subst (λ es. ByLast next es (item ∷ [])) (sym (append-nil (c ∷ run))) (behind [] c run [] item no_more sp f l)
       by _ _ (behind front d r others it s q g m) sp =
           subst (λ es. ByLast next es (item ∷ (others ++ it ∷ []))) (append_assoc (c ∷ run) front (d ∷ r))
@@ -106,16 +106,16 @@ module _ (syntax : Syntax) where
 
   module _ (inside : Content) (o : occurs syntax inside ≡ true) (e : ℕ) where
     -- Tokens that an entry of this value comes behind: they are whole without it, or the last one is text that ends at it.
-    data Standing : List Entry → List Entry → List Item → Type 0 where
-      still : {run front : List Entry} {items : List Item} → Spelled syntax front (next_of (values run) None) items → Standing run front items
-      was_text : (front : List Entry) (c : Entry) (r : List Entry) (others : List Item) (item : Item) → Spelled syntax front (Some c.value) others → GoesOn syntax inside [] (values (c ∷ r))
-          → verdict syntax inside (values (c ∷ r)) e ≡ ended item.token → item_of inside item.token (c ∷ r) ≡ item → Standing [] (front ++ (c ∷ r)) (others ++ item ∷ [])
+    data Standing : List PlacedCharacter → List PlacedCharacter → List Item → Type 0 where
+      still : {run front : List PlacedCharacter} {items : List Item} → Spelled syntax front (next_of (values run) None) items → Standing run front items
+      was_text : (front : List PlacedCharacter) (c : PlacedCharacter) (r : List PlacedCharacter) (others : List Item) (item : Item) → Spelled syntax front (Some c.value) others → CharactersGoOn syntax inside [] (values (c ∷ r))
+          → verdict syntax inside (values (c ∷ r)) e ≡ ended item.token → item_of_run inside item.token (c ∷ r) ≡ item → Standing [] (front ++ (c ∷ r)) (others ++ item ∷ [])
 
-    standing : (run front : List Entry) (items : List Item) → AllInside inside items → Spelled syntax front (next_of (values run) (Some e)) items → Standing run front items
+    standing : (run front : List PlacedCharacter) (items : List Item) → AllInside inside items → Spelled syntax front (next_of (values run) (Some e)) items → Standing run front items
     standing (d ∷ run) front items i sp = still sp
     standing [] front items i sp = by front items (by_last sp) i
       where
-        by : (front : List Entry) (items : List Item) → ByLast (Some e) front items → AllInside inside items → Standing [] front items
+        by : (front : List PlacedCharacter) (items : List Item) → ByLast (Some e) front items → AllInside inside items → Standing [] front items
         by _ _ nothing i = still no_more
         by _ _ (behind front c r others item s q g m) i =
             let here = ((inside_snoc inside others item).0 i).1 in
@@ -142,7 +142,7 @@ refused_by s i o depth line phase (faults.outside_section z e) n =
 refused_by s i o depth line phase (faults.at_tag chars t sp h) n = absurd (n (tag t) sp)
 
 -- and one that goes on is over at the next one
-ended_verdict : (s : Syntax) (i : Content) (text : Chars) (c : ℕ) (token : Token) → GoesOn s i [] text → ReadAs s i text (Some c) token → verdict s i text c ≡ ended token
+ended_verdict : (s : Syntax) (i : Content) (text : Chars) (c : ℕ) (token : Token) → CharactersGoOn s i [] text → ReadAs s i text (Some c) token → verdict s i text c ≡ ended token
 ended_verdict s i _ _ _ g (at_last f d t go v) = absurd (not_whole s i _ t (goes_at s i [] f d [] g) v)
 ended_verdict s i _ _ _ g (at_next x d t go v) = v
 
@@ -165,11 +165,11 @@ module _ (syntax : Syntax) (limits : Limits) (spot : Spot) (next : Scanning) (by
   by_char : (c : ℕ) → next.at < limits.page → IsCharacter with_byte c → c ≢ 0 → is_too_long syntax limits spot next.run (token_at next) next.at ≡ false → byte_read ≡ read_char syntax limits spot c next
   by_char c p is n l = by_answer (Char c) p (answer_is with_byte (Char c) is) ∙ (cond-false _ _ _ (ne_eqb c 0 n) ∙ cond-false _ _ _ l)
 
-  module _ (c : ℕ) (ent : Enters limits next byte c) where
+  module _ (c : ℕ) (ent : EntersCharacter limits next byte c) where
     abbrev value : ℕ
     value = as_line_end c
 
-    abbrev entry : Entry
+    abbrev entry : PlacedCharacter
     entry = record { value = value; first = starts_at next; last = next.at }
 
     abbrev known_with : Bool
@@ -191,19 +191,19 @@ module _ (syntax : Syntax) (limits : Limits) (spot : Spot) (next : Scanning) (by
           ∙ cond-false _ _ _ (not_long known_with (token_at next + limits.tag) next.at (λ k. fw (with_is ∙ k)))
 
       abbrev item : Token → Item
-      item token = item_of content_there token (next.run ++ entry ∷ [])
+      item token = item_of_run content_there token (next.run ++ entry ∷ [])
 
       literal_is : (d : ℕ) (token : Token) → is_literal d (item token) ≡ is_strict_literal d content_there token
       literal_is d token = ap (λ t. is_strict_literal d (item token).content t) (token_of_item content_there token (next.run ++ entry ∷ [])) ∙ ap (λ i. is_strict_literal d i token) (item_content content_there token next.run entry)
 
-      at_fault : GoesOn syntax content_there [] (values next.run) → (found : Kind) (run : Chars) → Left syntax content_there (values next.run) value run → verdict syntax content_there run value ≡ refused found → byte_read ≡ Err found
+      at_fault : CharactersGoOn syntax content_there [] (values next.run) → (found : Kind) (run : Chars) → Left syntax content_there (values next.run) value run → verdict syntax content_there run value ≡ refused found → byte_read ≡ Err found
       at_fault g found _ spelled.goes_on v = by_told ∙ ap tells v
       at_fault g found _ (is_over token sp) v =
           by_told
           ∙ (ap tells (ended_verdict syntax content_there (values next.run) value token g (reads_each syntax content_there (values next.run) (Some value) token sp))
-          ∙ ap (λ x. with_item syntax limits spot (item_of content_there token next.run) (told_first syntax limits spot (c == carriage_return) entry (after_token syntax limits spot next) x)) v)
+          ∙ ap (λ x. with_item syntax limits spot (item_of_run content_there token next.run) (told_first syntax limits spot (c == carriage_return) entry (after_token syntax limits spot next) x)) v)
 
-  pub refused_read : {found : Kind} → occurs syntax content_there ≡ true → GoesOn syntax content_there [] (values next.run) → Refuses syntax limits spot next byte found → byte_read ≡ Err found
+  pub refused_read : {found : Kind} → occurs syntax content_there ≡ true → CharactersGoOn syntax content_there [] (values next.run) → RefusesByte syntax limits spot next byte found → byte_read ≡ Err found
   refused_read o g (page_too_long l) = cond-true _ _ _ (is_le limits.page next.at l)
   refused_read o g (not_utf8 p n) = by_answer Bad p (answer_is with_byte Bad n)
   refused_read o g (nul p is) = by_answer (Char 0) p (answer_is with_byte (Char 0) is)
@@ -233,16 +233,16 @@ module _ (syntax : Syntax) (limits : Limits) (spot : Spot) (o : occurs syntax sp
   abbrev Are : List Item → Type 0
   Are items = Fine syntax limits spot o s items
 
-  abbrev known : List Entry → Bool
+  abbrev known : List PlacedCharacter → Bool
   known run = is_known_tag syntax inside (values run)
 
-  abbrev enters_as : List ℕ → List Entry
+  abbrev enters_as : List ℕ → List PlacedCharacter
   enters_as cs = entries_of syntax limits spot o s cs
 
   abbrev flags : List Item → Bool × Bool
   flags items = brackets syntax limits spot o s items
 
-  abbrev there : List ℕ → List ℕ → List ℕ → List Entry → Bool × Bool → Scanning
+  abbrev there : List ℕ → List ℕ → List ℕ → List PlacedCharacter → Bool × Bool → Scanning
   there bytes cs part run b = state syntax limits spot o s bytes cs part run b
 
   fine_last : (items : List Item) (item : Item) → Are (items ++ item ∷ []) → Are items
@@ -250,11 +250,11 @@ module _ (syntax : Syntax) (limits : Limits) (spot : Spot) (o : occurs syntax sp
       record { inside_is = ((inside_snoc inside items item).0 f.inside_is).0; come = ((come_snoc spot.leads items item).0 f.come).0; fit = (fit_last limits.tag items item f.fit).0; sections = (sections_last items item s.two s.last f.sections).0 }
 
   -- bytes, and one more
-  module _ (bytes : List ℕ) (byte : ℕ) (final : Scanned) (t : Spells syntax limits spot s (bytes ++ byte ∷ []) final) where
+  module _ (bytes : List ℕ) (byte : ℕ) (final : Scanned) (t : ScanSpells syntax limits spot s (bytes ++ byte ∷ []) final) where
     -- what the bytes before it spell, and that it leads on from there
     record Before : Type 0 where
       mid : Scanned
-      told : Spells syntax limits spot s bytes mid
+      told : ScanSpells syntax limits spot s bytes mid
       items : List Item
       reads : read_byte syntax limits spot byte mid.next ≡ Ok (record { next = final.next; items = items })
       are : final.items ≡ mid.items ++ items
@@ -279,7 +279,7 @@ module _ (syntax : Syntax) (limits : Limits) (spot : Spot) (o : occurs syntax sp
 
     -- they are these characters and a part of one
     module _ (cs part : List ℕ) (are : bytes ≡ encodes cs ++ part) (scalars : all_scalars cs ≡ true) (begun : BeginsCharacter part) (some : has_no_nul (enters_as cs) ≡ true) where
-      before_with : (front run : List Entry) (items left : List Item) → front ++ run ≡ enters_as cs → Spelled syntax front (next_of (values run) None) items → Are items → GoesOn syntax inside [] (values run) → ((from : ℕ) → known run ≡ true → at ≤ first_of run from + limits.tag)
+      before_with : (front run : List PlacedCharacter) (items left : List Item) → front ++ run ≡ enters_as cs → Spelled syntax front (next_of (values run) None) items → Are items → CharactersGoOn syntax inside [] (values run) → ((from : ℕ) → known run ≡ true → at ≤ first_of run from + limits.tag)
           → read_byte syntax limits spot byte (there bytes cs part run (flags items)) ≡ Ok (record { next = final.next; items = left }) → final.items ≡ items ++ left → Before
       before_with front run items left read sp f g short reads e =
           record {
@@ -322,7 +322,7 @@ module _ (syntax : Syntax) (limits : Limits) (spot : Spot) (o : occurs syntax sp
       begun : BeginsCharacter part
       begun = record { more = byte ∷ []; value = c; longer = λ h. cc; character = is }
 
-      abbrev mid : List Entry → Bool × Bool → Scanning
+      abbrev mid : List PlacedCharacter → Bool × Bool → Scanning
       mid run b = there bytes cs part run b
 
       abbrev does_pass : Bool
@@ -331,7 +331,7 @@ module _ (syntax : Syntax) (limits : Limits) (spot : Spot) (o : occurs syntax sp
       read : t.front ++ final.next.run ≡ enters_as cs ++ new_entries syntax limits spot o s bytes byte cs part c split_is.0 form
       read = t.read ∙ (ap enters_as ce ∙ entries_are syntax limits spot o s bytes byte cs part c split_is.0 form)
 
-      leads_on : (after_return : Bool) (old run : List Entry) (two last : Bool) (b : Bool × Bool) (left : List Item) → after_return ≡ (c == carriage_return) → run ≡ final.next.run → (two, last) ≡ flags final.items
+      leads_on : (after_return : Bool) (old run : List PlacedCharacter) (two last : Bool) (b : Bool × Bool) (left : List Item) → after_return ≡ (c == carriage_return) → run ≡ final.next.run → (two, last) ≡ flags final.items
           → ◌≡◌ {A = Result Scanned Kind} (Ok (record { next = entering after_return run two last (mid old b); items = left })) (Ok (record { next = final.next; items = left }))
       leads_on after_return old run two last b left a r f =
           ap (λ n. Ok (record { next = n; items = left }))
@@ -349,7 +349,7 @@ module _ (syntax : Syntax) (limits : Limits) (spot : Spot) (o : occurs syntax sp
 
       -- one that is entered
       module _ (enters : does_pass ≡ false) where
-        abbrev e : Entry
+        abbrev e : PlacedCharacter
         e = new_entry syntax limits spot o s bytes byte cs part c split_is.0 form
 
         grown : t.front ++ final.next.run ≡ enters_as cs ++ e ∷ []
@@ -358,11 +358,11 @@ module _ (syntax : Syntax) (limits : Limits) (spot : Spot) (o : occurs syntax sp
         no_nul : (has_no_nul (enters_as cs) ≡ true) × (not (e.value == 0) ≡ true)
         no_nul = no_nul_last (enters_as cs) e (sym (ap has_no_nul grown) ∙ t.no_nul)
 
-        ent : (run : List Entry) (b : Bool × Bool) → Enters limits (mid run b) byte c
+        ent : (run : List PlacedCharacter) (b : Bool × Bool) → EntersCharacter limits (mid run b) byte c
         ent run b = record { page = within.1; is = is; no_nul = λ z. (let w : false ≡ true = sym (ap not (nul_entry c (ap (λ y. y == 0) z))) ∙ no_nul.1 in cc); enters = enters }
 
         -- what it says of these tokens and this run
-        at_entry : (run front : List Entry) (others items : List Item) (v : Verdict) → Standing syntax inside o e.value run front others → front ++ run ≡ enters_as cs → Are others → GoesOn syntax inside [] (values run)
+        at_entry : (run front : List PlacedCharacter) (others items : List Item) (v : Verdict) → Standing syntax inside o e.value run front others → front ++ run ≡ enters_as cs → Are others → CharactersGoOn syntax inside [] (values run)
             → ((from : ℕ) → is_known_tag syntax inside (values run ++ e.value ∷ []) ≡ true → at < first_of (run ++ e ∷ []) from + limits.tag) → verdict syntax inside (values run) e.value ≡ v
             → ((n : Scanning) → told syntax limits spot (c == carriage_return) e n v ≡ told_first syntax limits spot (c == carriage_return) e n v) → ((b : Bool × Bool) → b ≡ flags others → told_first syntax limits spot (c == carriage_return) e (mid run b) v ≡ Ok (record { next = final.next; items = items })) → final.items ≡ others ++ items → Before
         at_entry run front others items v (still sp) whole_front f g fits v_is n first are =
@@ -377,15 +377,15 @@ module _ (syntax : Syntax) (limits : Limits) (spot : Spot) (o : occurs syntax sp
             before_with cs part split_is.0 scalars.0 begun no_nul.0 front (d ∷ r) others (item ∷ items) (sym (append-nil (front ++ (d ∷ r))) ∙ whole_front) sp (fine_last others item f) go (λ from k. absurd (unknown (known_more syntax inside (values (d ∷ r)) (e.value ∷ []) k)))
             (by_told syntax limits spot (mid (d ∷ r) (flags others)) byte c (ent (d ∷ r) (flags others)) (λ k. absurd (unknown k))
             ∙ (ap (λ w. told syntax limits spot (c == carriage_return) e (mid (d ∷ r) (flags others)) w) w
-            ∙ (ap (λ y. with_item syntax limits spot (item_of inside item.token (d ∷ r)) (told_first syntax limits spot (c == carriage_return) e (mid [] (false, false)) y)) v_is
-            ∙ (ap (λ y. with_item syntax limits spot (item_of inside item.token (d ∷ r)) y) (first (false, false) (sym (kept_flags others item s.two s.last kept_is))) ∙ ap (λ y. Ok (record { next = final.next; items = y ∷ items })) is_item))))
+            ∙ (ap (λ y. with_item syntax limits spot (item_of_run inside item.token (d ∷ r)) (told_first syntax limits spot (c == carriage_return) e (mid [] (false, false)) y)) v_is
+            ∙ (ap (λ y. with_item syntax limits spot (item_of_run inside item.token (d ∷ r)) y) (first (false, false) (sym (kept_flags others item s.two s.last kept_is))) ∙ ap (λ y. Ok (record { next = final.next; items = y ∷ items })) is_item))))
             (are ∙ append_assoc others (item ∷ []) items)
 
         -- it goes on
-        on_run : (run : List Entry) → final.next.run ≡ run ++ e ∷ [] → t.front ++ run ≡ enters_as cs → Before
+        on_run : (run : List PlacedCharacter) → final.next.run ≡ run ++ e ∷ [] → t.front ++ run ≡ enters_as cs → Before
         on_run run re q =
             let text_is : values final.next.run ≡ values run ++ e.value ∷ [] = ap values re ∙ values_append run (e ∷ []) in
-            let on : GoesOn syntax inside [] (values run ++ e.value ∷ []) = subst (λ x. GoesOn syntax inside [] x) text_is h.goes in
+            let on : CharactersGoOn syntax inside [] (values run ++ e.value ∷ []) = subst (λ x. CharactersGoOn syntax inside [] x) text_is h.goes in
             at_entry run t.front final.items [] goes_on
             (standing syntax inside o e.value run t.front final.items t.inside_is (subst (λ n. Spelled syntax t.front n final.items) (ap (λ z. next_of (values z) None) re ∙ values_next run e [] None) t.spelled))
             q h.fine (goes_front syntax inside [] (values run) (e.value ∷ []) on)
@@ -394,7 +394,7 @@ module _ (syntax : Syntax) (limits : Limits) (spot : Spot) (o : occurs syntax sp
             (λ b f. leads_on (c == carriage_return) run (run ++ e ∷ []) b.0 b.1 b [] refl (sym re) f) (sym (append-nil final.items))
 
         -- it is the last one of a token
-        on_token : final.next.run ≡ [] → (front : List Entry) (items : List Item) → ByLast syntax None front items → front ≡ enters_as cs ++ e ∷ [] → final.items ≡ items → Are items → Before
+        on_token : final.next.run ≡ [] → (front : List PlacedCharacter) (items : List Item) → ByLast syntax None front items → front ≡ enters_as cs ++ e ∷ [] → final.items ≡ items → Are items → Before
         on_token re _ _ nothing q i f = absurd (not_none (enters_as cs) e (sym q))
         on_token re _ _ (behind front d r others item sp k first last) q i f = by (last_in front (d ∷ r) (enters_as cs) e q)
           where
@@ -402,7 +402,7 @@ module _ (syntax : Syntax) (limits : Limits) (spot : Spot) (o : occurs syntax sp
             by (in_front z w) = absurd (cc)
             by (in_run run unit w) =
                 let here = ((inside_snoc inside others item).0 f.inside_is).1 in
-                let it : item_of inside item.token (run ++ e ∷ []) ≡ item = ap (λ z. item_of inside item.token z) (sym unit) ∙ item_is inside item d r here first last in
+                let it : item_of_run inside item.token (run ++ e ∷ []) ≡ item = ap (λ z. item_of_run inside item.token z) (sym unit) ∙ item_is inside item d r here first last in
                 let spells : spelling.Spells syntax inside (values run ++ e.value ∷ []) None item.token = subst (λ x. spelling.Spells syntax inside x None item.token) (ap values unit ∙ values_append run (e ∷ [])) (subst (λ x. spelling.Spells syntax x (values (d ∷ r)) None item.token) here k) in
                 let v = whole_verdict syntax inside (values run) e.value item.token spells in
                 at_entry run front others (item ∷ []) (whole item.token)
@@ -442,14 +442,14 @@ module _ (syntax : Syntax) (limits : Limits) (spot : Spot) (o : occurs syntax sp
         by (no_last pe) (no_last ce) = absurd (not_none bytes byte (t.are ∙ (ap (λ y. encodes y ++ t.part) ce ∙ pe)))
 
   abbrev Scans : List ℕ → Type 0
-  Scans bytes = (final : Scanned) → Spells syntax limits spot s bytes final → scan_from syntax limits spot s bytes ≡ Ok final
+  Scans bytes = (final : Scanned) → ScanSpells syntax limits spot s bytes final → scan_from syntax limits spot s bytes ≡ Ok final
 
   -- nothing is spelled by no bytes
-  no_tokens : (front run : List Entry) {next : Option ℕ} {items : List Item} → Spelled syntax front next items → front ++ run ≡ [] → (run ≡ []) × (items ≡ [])
+  no_tokens : (front run : List PlacedCharacter) {next : Option ℕ} {items : List Item} → Spelled syntax front next items → front ++ run ≡ [] → (run ≡ []) × (items ≡ [])
   no_tokens _ run no_more e = (e, refl)
   no_tokens _ run (one c r rest item sp f l more) e = absurd (cc)
 
-  from_none : IsBetween s → Scans []
+  from_none : TokensAreWhole s → Scans []
   from_none b final t = by t.characters t.part t.are refl refl
     where
       by : (cs part : List ℕ) → [] ≡ encodes cs ++ part → t.characters ≡ cs → t.part ≡ part → scan_from syntax limits spot s [] ≡ Ok final
@@ -470,10 +470,10 @@ module _ (syntax : Syntax) (limits : Limits) (spot : Spot) (o : occurs syntax sp
       on_append syntax limits spot (Ok (record { next = s; items = [] })) bytes (byte ∷ [])
       ∙ (ap (λ x. scan_on syntax limits spot x (byte ∷ [])) (h b.mid b.told) ∙ (ap (λ x. with_items b.mid.next b.mid.items x) b.reads ∙ ap (λ x. Ok (record { next = final.next; items = x })) (sym b.are)))))
 
-  pub spelled_back : IsBetween s → (bytes : List ℕ) → Scans bytes
+  pub spelled_back : TokensAreWhole s → (bytes : List ℕ) → Scans bytes
   spelled_back b bytes = scans_more [] bytes (from_none b)
 
-refused_back : (syntax : Syntax) (limits : Limits) (spot : Spot) (s : Scanning) (bytes : List ℕ) (fault : Fault) → occurs syntax spot.inside ≡ true → IsBetween s → FirstFault syntax limits spot s bytes fault → scan_from syntax limits spot s bytes ≡ Err fault
+refused_back : (syntax : Syntax) (limits : Limits) (spot : Spot) (s : Scanning) (bytes : List ℕ) (fault : Fault) → occurs syntax spot.inside ≡ true → TokensAreWhole s → FirstFault syntax limits spot s bytes fault → scan_from syntax limits spot s bytes ≡ Err fault
 refused_back syntax limits spot s bytes fault o b f =
     ap (λ x. scan_from syntax limits spot s x) f.are
     ∙ (on_append syntax limits spot (Ok (record { next = s; items = [] })) f.front (f.byte ∷ f.rest)

@@ -1,5 +1,5 @@
 -- Behind `<!` and `<?`, and in a document type, a move says what the verdict is.
-use Rattle.rx_scan.proofs.Common.{◌≡◌, ◌∙◌, ℕ, Bool, true, false, [], ◌∷◌, ◌++◌, refl, ap, sym, subst, append_assoc, append-nil, eqb-true, ◌+◌, arith, Option, Some, None, length, ◌&&◌, ◌||◌, ◌==◌, if◌then◌else◌, ◌-◌, take, codes, cond-true, cond-false, nat_tests, less_than_sign, is_white_space, Chars, split, both, Syntax, same, comment, section, ends_with, ends_comment, cased_char, Content, length-append, BadDoctype, may_close, after_dash, after_bang, in_comment, after_strict_dash, in_strict_comment, in_instruction, in_bogus, in_section, at_bracket, are_two, Pending, PendsAs, Behind, judge_of, CommentEnds, is_start, is_start_dash, has_dash, has_dashes, has_bang, StrictEnds, has_strict_dash, has_strict_dashes, SectionEnds, bracket_text, DoctypeIs, DoctypeEnds, is_one, Means, Goes, section_text}
+use Rattle.rx_scan.proofs.Common.{◌≡◌, ◌∙◌, ℕ, Bool, true, false, [], ◌∷◌, ◌++◌, refl, ap, sym, subst, append_assoc, append-nil, eqb-true, ◌+◌, arith, Option, Some, None, length, ◌&&◌, ◌||◌, ◌==◌, if◌then◌else◌, ◌-◌, take, codes, cond-true, cond-false, nat_tests, less_than_sign, is_white_space, Chars, split, both, Syntax, same, comment, section, ends_with, ends_comment, cased_char, Content, length-append, BadDoctype, may_close, after_dash, after_bang, in_comment, after_strict_dash, after_strict, in_instruction, in_bogus, after_section, at_bracket, are_two, Pending, PendsAs, Behind, judge_of, CommentEnds, is_start, is_start_dash, has_dash, has_dashes, has_bang, StrictEnds, has_strict_dash, has_strict_dashes, SectionEnds, bracket_text, DoctypeIs, DoctypeEnds, is_one, Means, Goes, section_text}
 use Rattle.rx_pages.specs.Scanner as told
 use Rattle.rx_scan.specs.declared.marks.CommentPhase.{CommentPhase}
 use Rattle.rx_scan.specs.declared.marks.CommentPhase.TheVariants as comments
@@ -119,7 +119,7 @@ module _ (s : Syntax) (i : Content) (p : Pending) (text : Chars) (c : ℕ) where
       ends_or_goes judge (CommentEnds q) b (c == 62 && may_close q) (mark.Comment (next_phase q c)) (ap (λ t. told.whole_if t comment) (comment_closes q b.rest c b.is))
       (behind_more judge (CommentEnds q) (CommentEnds (next_phase q c)) b (comment_grows q b.rest c b.is))
 
-  pub in_strict_means : (q : StrictPhase) → PendsAs s i (mark.StrictComment q) p.run p.tag text → Means s i p text c (in_strict_comment q c)
+  pub in_strict_means : (q : StrictPhase) → PendsAs s i (mark.StrictComment q) p.run p.tag text → Means s i p text c (after_strict q c)
   in_strict_means strict.Dashes b =
       let judge = judge_of s i (mark.StrictComment strict.Dashes) in
       split (λ (m : Move). Means s i p text c m) (c == 62) _ _
@@ -142,7 +142,7 @@ module _ (s : Syntax) (i : Content) (p : Pending) (text : Chars) (c : ℕ) where
       let closes : ends_with (codes "?>") (b.rest ++ c ∷ []) ≡ ((c == 62) && asked) = ends_snoc (63 ∷ []) 62 b.rest c ∙ (ap (λ t. t && ends_with (63 ∷ []) b.rest) (either_way 62 c) ∙ ap (λ t. (c == 62) && t) b.is) in
       ends_or_goes judge (Asked asked) b (c == 62 && asked) (mark.Instruction (c == 63)) (ap (λ t. told.whole_if t comment) closes) (behind_more judge (Asked asked) (Asked (c == 63)) b (ends_one 63 b.rest c ∙ either_way 63 c))
 
-  pub in_section_means : (q : Brackets) → PendsAs s i (mark.Section q) p.run p.tag text → Means s i p text c (in_section q c)
+  pub in_section_means : (q : Brackets) → PendsAs s i (mark.Section q) p.run p.tag text → Means s i p text c (after_section q c)
   in_section_means q b =
       split (λ (m : Move). Means s i p text c m) (c == 93) _ _
       (λ h. bracket q b (eqb-true c 93 h) (judged_at judge (SectionEnds q p.run) b ∙ ap (λ t. told.whole_if t (section (take (length b.rest - 2) b.rest))) (section_closes q p.run b.rest c b.is ∙ ap (λ (x : ℕ). (x == 62) && are_two q) (eqb-true c 93 h))))
@@ -196,7 +196,7 @@ module _ (s : Syntax) (i : Content) (p : Pending) (text : Chars) (c : ℕ) where
   ends q b e = judged q b ∙ ap told.told_of_doctype e
 
   -- in the name, of which `left` is to come
-  in_name_means : (q : DoctypePhase) (b : Behind s i (judge_of s i (mark.Doctype q)) (DoctypeEnds s q) text) (read left : Chars) (n : ℕ) → codes "html" ≡ read ++ left → length read ≡ n → told.doctype_move s b.is.phase c ≡ told.in_name s left c → Means s i p text c (marks.in_name s (head_of left) n c)
+  in_name_means : (q : DoctypePhase) (b : Behind s i (judge_of s i (mark.Doctype q)) (DoctypeEnds s q) text) (read left : Chars) (n : ℕ) → codes "html" ≡ read ++ left → length read ≡ n → told.doctype_move s b.is.phase c ≡ told.in_name s left c → Means s i p text c (marks.in_doctype_name s (head_of left) n c)
   in_name_means q b read [] n are count e =
       split (λ (m : Move). Means s i p text c m) (is_white_space c) _ _
       (λ h. goes_on phases.Passed q b told.passed (e ∙ cond-true _ _ _ h) refl refl)
@@ -206,7 +206,7 @@ module _ (s : Syntax) (i : Content) (p : Pending) (text : Chars) (c : ℕ) where
       (λ h. goes_on (phases.Name (n + 1)) q b (told.naming left) (e ∙ cond-true _ _ _ h) refl (record { read = read ++ d ∷ []; left = left; are = are ∙ sym (append_assoc read (d ∷ []) left); count = length-append read (d ∷ []) ∙ ap (λ k. k + 1) count; phase = refl }))
       (λ h. refuses q b (e ∙ cond-false _ _ _ h))
 
-  pub in_doctype_means : (q : DoctypePhase) → PendsAs s i (mark.Doctype q) p.run p.tag text → Means s i p text c (marks.in_doctype s q c)
+  pub in_doctype_means : (q : DoctypePhase) → PendsAs s i (mark.Doctype q) p.run p.tag text → Means s i p text c (marks.doctype_char s q c)
   in_doctype_means phases.Keyword b =
       let e = ap (λ x. told.doctype_move s x c) b.is.is in
       split (λ (m : Move). Means s i p text c m) (is_white_space c) _ _
@@ -219,7 +219,7 @@ module _ (s : Syntax) (i : Content) (p : Pending) (text : Chars) (c : ℕ) where
       (λ h. in_name_means phases.Spaces b [] (codes "html") 0 refl refl (e ∙ cond-false _ _ _ h))
   in_doctype_means (phases.Name n) b =
       let l = b.is.is in
-      subst (λ (o : Option ℕ). Means s i p text c (marks.in_name s o n c)) (sym (word_at (codes "html") l.read l.left n l.are l.count))
+      subst (λ (o : Option ℕ). Means s i p text c (marks.in_doctype_name s o n c)) (sym (word_at (codes "html") l.read l.left n l.are l.count))
       (in_name_means (phases.Name n) b l.read l.left n l.are l.count (ap (λ x. told.doctype_move s x c) l.phase))
   in_doctype_means phases.Passed b =
       let e = ap (λ x. told.doctype_move s x c) b.is.is in

@@ -1,5 +1,5 @@
 -- What an answer says of the reader of bytes; and that what one character does is so: by its move, and the token that begins, goes on or is whole with it.
-use Rattle.rx_scan.proofs.Common.{◌≡◌, ◌∙◌, ℕ, ◌+◌, Bool, true, false, [], ◌∷◌, ◌++◌, ap, sym, Result, Ok, List, refl, subst, Err, Option, Some, None, append-nil, ◌&&◌, not, ◌==◌, if◌then◌else◌, encode_utf8_all, cond-false, cond-true, Chars, is_empty, both, not_both_ways, split, and-false, and-true, Entry, Syntax, Token, character, reference, section, comment, doctype, kept, tag, Item, values, is_literal, is_strict_literal, text_of, is_line_feed, meaning, Content, Kind, Stop, StrictText, BadDoctype, Limits, is_last, TagState, fresh, tag_on, tag_step, tag_of, parts_of, is_closing, tag_on-append, token_of_item, Fault, item_content, item_first, item_last, ended, begun, cut, Pending, PendsAs, phase_of, first_char, bracket_text, Reading, spot_of, ReadsAs, a_line_feed, joined, IsOne, a_comment, an_empty_section, setting_after, keeps_first, Skips, Tells, texts_of, Buffered, no_tag, TagSoFar, MayStep, StepGives, no_meaning}
+use Rattle.rx_scan.proofs.Common.{◌≡◌, ◌∙◌, ℕ, ◌+◌, Bool, true, false, [], ◌∷◌, ◌++◌, ap, sym, Result, Ok, List, refl, subst, Err, Option, Some, None, append-nil, ◌&&◌, not, ◌==◌, if◌then◌else◌, encode_utf8_all, cond-false, cond-true, Chars, is_empty, both, not_both_ways, split, and-false, and-true, PlacedCharacter, Syntax, Token, character, reference, section, comment, doctype, kept, tag, Item, values, is_literal, is_strict_literal, text_of, is_line_feed, meaning, Content, Kind, Stop, StrictText, BadDoctype, Limits, is_last, TagState, fresh, tag_on, tag_step, tag_of, parts_of, is_closing, tag_on-append, token_of_item, Fault, item_content, item_first, item_last, ended, begun, cut, Pending, PendsAs, phase_of, first_char, bracket_text, Reading, reading_spot, ReadsAs, a_line_feed, joined, IsOne, a_comment, an_empty_section, setting_after, keeps_first, Skips, TellsTokens, texts_of, Buffered, no_tag, TagSoFar, MayStep, StepGives, no_meaning}
 use Rattle.rx_terms.specs.Ascii.{greater_than_sign, right_bracket, line_feed}
 use Rattle.rx_pages.specs.Scanner as verdicts
 use Rattle.rx_pages.specs.PageReader as reader
@@ -37,7 +37,7 @@ abbrev pub IsTold : Reading → TokenKind → List Item → Reading → Type 0
 IsTold old what.Nothing items new = Grows old items new
 IsTold old what.Text items new = ⊥
 IsTold old what.Skipped items new = ((s : reader.Scanning) (bytes : List ℕ) → Skips old.setting.drops s bytes items) × (new.text.text ≡ old.text.text)
-IsTold old answer items new = Tells old.setting.drops answer reader.no_bytes [] items new × (new.text.text ≡ old.text.text)
+IsTold old answer items new = TellsTokens old.setting.drops answer reader.no_bytes [] items new × (new.text.text ≡ old.text.text)
 
 pub record GivesOk (r : Result reader.Scanned Kind) (old : Reading) (answer : TokenKind) (new : Reading) : Type 0 where
   pub scanned : reader.Scanned
@@ -75,14 +75,14 @@ grows_by : (old new : Reading) (items : List Item) (more : Chars) → texts_of i
 grows_by old new items more x t k n s = record { more = more; texts = x; text = t; keeps = k; some = λ z. absurd (n z); started = λ z. s; still = λ z. s }
 
 -- the entry of the next character, the verdict on it, and what the reader of bytes makes of a verdict
-abbrev pub entry_at : reader.Scanning → ℕ → Entry
+abbrev pub entry_at : reader.Scanning → ℕ → PlacedCharacter
 entry_at s c = record { value = c; first = reader.starts_at s; last = s.at }
 
 abbrev pub verdict_at : Reading → reader.Scanning → ℕ → verdicts.Verdict
 verdict_at v s c = verdicts.verdict v.setting.syntax v.setting.inside (values s.run) c
 
 abbrev pub read_at : Reading → reader.Scanning → Bool → ℕ → verdicts.Verdict → Result reader.Scanned Kind
-read_at v s ar c w = reader.told v.setting.syntax v.setting.limits (spot_of v) ar (entry_at s c) s w
+read_at v s ar c w = reader.told v.setting.syntax v.setting.limits (reading_spot v) ar (entry_at s c) s w
 
 module _ (v : Reading) (s : reader.Scanning) (h : ReadsAs v s) (ar : Bool) (c : ℕ) where
   abbrev sy : Syntax
@@ -95,9 +95,9 @@ module _ (v : Reading) (s : reader.Scanning) (h : ReadsAs v s) (ar : Bool) (c : 
   lim = v.setting.limits
 
   abbrev spot : reader.Spot
-  spot = spot_of v
+  spot = reading_spot v
 
-  abbrev entry : Entry
+  abbrev entry : PlacedCharacter
   entry = entry_at s c
 
   abbrev text : Chars
@@ -111,7 +111,7 @@ module _ (v : Reading) (s : reader.Scanning) (h : ReadsAs v s) (ar : Bool) (c : 
 
   -- the item of the pending characters and this one
   abbrev item : Token → Item
-  item t = reader.item_of inside t (s.run ++ entry ∷ [])
+  item t = reader.item_of_run inside t (s.run ++ entry ∷ [])
 
   item_token : (t : Token) → (item t).token ≡ t
   item_token t = token_of_item inside t (s.run ++ entry ∷ [])
@@ -163,7 +163,7 @@ module _ (v : Reading) (s : reader.Scanning) (h : ReadsAs v s) (ar : Bool) (c : 
       gives_ok (read verdict) s v what.Nothing result (entries.with_begun v ar m) new q n
       (record {
         scanned = record { next = reader.entering ar (entry ∷ []) s.two s.last s; items = [] };
-        is = ap read b.goes ∙ ap (λ (r : List Entry). Ok (record { next = reader.entering ar r s.two s.last s; items = [] })) run;
+        is = ap read b.goes ∙ ap (λ (r : List PlacedCharacter). Ok (record { next = reader.entering ar r s.two s.last s; items = [] })) run;
         reads_as = begins v s h ar entry (record { mark = m; run = []; tag = no_tag v.pending.tag.syntax }) v.setting v.text (begun ar v.place) s.two s.last refl refl refl
             (λ i. record { at = v.place.at + 1; starts = v.place.at + 1; token = v.place.starts; started = true; after_return = ar; two = h.two i; last = h.last i })
             h.syntax (b.pends (no_tag v.pending.tag.syntax) (ap no_tag h.syntax));
@@ -183,7 +183,7 @@ module _ (v : Reading) (s : reader.Scanning) (h : ReadsAs v s) (ar : Bool) (c : 
 
   -- a token is whole
   abbrev behind_whole : Setting → Bool → Buffered → Reading
-  behind_whole setting bracket b = entries.with_parts v setting (ended ar bracket v.place) (entries.marked mark.Nothing v.pending) b
+  behind_whole setting bracket b = entries.with_parts v setting (ended ar bracket v.place) (entries.with_mark mark.Nothing v.pending) b
 
   gives_whole : (t : Token) (answer : TokenKind) (setting : Setting) (bracket : Bool) (b : Buffered) (result : Result TokenKind Stop) (new : Reading) → read verdict ≡ Ok (record { next = behind t; items = item t ∷ [] }) → bracket ≡ is_strict_literal right_bracket inside t
       → result ≡ Ok answer → new ≡ behind_whole setting bracket b → setting.syntax ≡ sy → IsTold v answer (item t ∷ []) (behind_whole setting bracket b) → setting ≡ setting_after answer (behind_whole setting bracket b) v.setting (item t ∷ []) → Gives (read verdict) s v result new
@@ -192,14 +192,14 @@ module _ (v : Reading) (s : reader.Scanning) (h : ReadsAs v s) (ar : Bool) (c : 
       (record {
         scanned = record { next = behind t; items = item t ∷ [] };
         is = g;
-        reads_as = ends_as t (entries.marked mark.Nothing v.pending) setting b v.end bracket e y refl h.syntax;
+        reads_as = ends_as t (entries.with_mark mark.Nothing v.pending) setting b v.end bracket e y refl h.syntax;
         told = told;
         setting = k;
       })
 
   -- a character of text, by itself or by a reference
   gives_said : (t : Token) (d : ℕ) (bracket : Bool) (result : Result TokenKind Stop) (new : Reading) → read verdict ≡ Ok (record { next = behind t; items = item t ∷ [] }) → text_of t ≡ Some (d ∷ []) → is_line_feed t ≡ (d == line_feed)
-      → bracket ≡ is_strict_literal right_bracket inside t → entries.Says v d (ended ar bracket v.place) result new → Gives (read verdict) s v result new
+      → bracket ≡ is_strict_literal right_bracket inside t → entries.SaysCharacter v d (ended ar bracket v.place) result new → Gives (read verdict) s v result new
   gives_said t d bracket (Ok what.Nothing) new g x l e k =
       gives_whole t what.Nothing (entries.undropped v.setting) bracket new.text (Ok what.Nothing) new g e refl k.1.is refl
       (grows_by _ _ _ (d ∷ []) (ap (λ o. joined o (Some [])) (ap text_of (item_token t) ∙ x)) k.1.text.text (ap (λ b. not (v.setting.drops && b)) (ap is_line_feed (item_token t) ∙ l) ∙ ap not k.0) (λ z. cc) refl) refl
@@ -219,21 +219,21 @@ module _ (v : Reading) (s : reader.Scanning) (h : ReadsAs v s) (ar : Bool) (c : 
       (completes (character c) g (ap (λ b. b && is_strict_literal greater_than_sign inside (character c)) (sym h.two) ∙ q) refl) refl refl refl k) k
 
   -- the character that a reference stands for
-  gives_closes : (result : Result TokenKind Stop) (new : Reading) → meant.Closes sy inside v.pending text c → entries.Closes v ar (meaning sy (encode_utf8_all v.pending.run)) result new → Gives (read verdict) s v result new
-  gives_closes result new m k = by (meaning sy v.pending.run) refl (subst (λ (x : Chars). entries.Closes v ar (meaning sy x) result new) m.ascii k)
+  gives_closes : (result : Result TokenKind Stop) (new : Reading) → meant.Closes sy inside v.pending text c → entries.ClosesReference v ar (meaning sy (encode_utf8_all v.pending.run)) result new → Gives (read verdict) s v result new
+  gives_closes result new m k = by (meaning sy v.pending.run) refl (subst (λ (x : Chars). entries.ClosesReference v ar (meaning sy x) result new) m.ascii k)
     where
-      by : (o : Option ℕ) → meaning sy v.pending.run ≡ o → entries.Closes v ar (meaning sy v.pending.run) result new → Gives (read verdict) s v result new
+      by : (o : Option ℕ) → meaning sy v.pending.run ≡ o → entries.ClosesReference v ar (meaning sy v.pending.run) result new → Gives (read verdict) s v result new
       by (Some d) e k =
           gives_said (reference d) d false result new (completes (reference d) (m.goes ∙ ap (verdicts.told_of_reference v.pending.run) e) (unliteral (reference d) refl) refl) refl refl
-          (lone (reference d) refl) (subst (λ (x : Option ℕ). entries.Closes v ar x result new) e k)
+          (lone (reference d) refl) (subst (λ (x : Option ℕ). entries.ClosesReference v ar x result new) e k)
       by None e k =
           refuses (read verdict) v s (no_meaning (phase_of v.pending.mark)) result new h
-          (ap read (m.goes ∙ (ap (verdicts.told_of_reference v.pending.run) e ∙ ap verdicts.refused m.kind))) (subst (λ (x : Option ℕ). entries.Closes v ar x result new) e k)
+          (ap read (m.goes ∙ (ap (verdicts.told_of_reference v.pending.run) e ∙ ap verdicts.refused m.kind))) (subst (λ (x : Option ℕ). entries.ClosesReference v ar x result new) e k)
 
   one : (t : Token) → IsOne t (item t ∷ [])
   one t = record { item = item t; one = refl; is = item_token t }
 
-  gives_section : (result : Result TokenKind Stop) (new : Reading) → verdict ≡ verdicts.whole (section v.pending.run) → entries.Ends v ar whole_mark.Section result new → Gives (read verdict) s v result new
+  gives_section : (result : Result TokenKind Stop) (new : Reading) → verdict ≡ verdicts.whole (section v.pending.run) → entries.TokenEnds v ar whole_mark.Section result new → Gives (read verdict) s v result new
   gives_section result new g k = by v.pending.run refl
     where
       done : read verdict ≡ Ok (record { next = behind (section v.pending.run); items = item (section v.pending.run) ∷ [] })
@@ -249,12 +249,12 @@ module _ (v : Reading) (s : reader.Scanning) (h : ReadsAs v s) (ar : Bool) (c : 
 
   -- a run that was text, and what is read afresh behind it
   abbrev run_item : Token → Item
-  run_item t = reader.item_of inside t s.run
+  run_item t = reader.item_of_run inside t s.run
 
   abbrev afresh : verdicts.Verdict → Result reader.Scanned Kind
   afresh w = reader.told_first sy lim spot ar entry (reader.after_token sy lim spot s) w
 
-  gives_stops : (result : Result TokenKind Stop) (new : Reading) → meant.Stops sy inside v.pending text c → entries.Stops v c ar (marks.at_first inside c) result new → Gives (read verdict) s v result new
+  gives_stops : (result : Result TokenKind Stop) (new : Reading) → meant.Stops sy inside v.pending text c → entries.EndsTextRun v c ar (marks.at_first inside c) result new → Gives (read verdict) s v result new
   gives_stops result new m k = by (marks.at_first inside c) refl (simulates sy inside none [] c refl) k
     where
       none : Pending
@@ -269,7 +269,7 @@ module _ (v : Reading) (s : reader.Scanning) (h : ReadsAs v s) (ar : Bool) (c : 
       first_kept : (more : List Item) → keeps_first v.setting.drops (run_item (kept (first_char v.pending.mark ∷ v.pending.run)) ∷ more) ≡ true
       first_kept more = ap (λ t. not (v.setting.drops && is_line_feed t)) (token_of_item inside (kept (first_char v.pending.mark ∷ v.pending.run)) s.run) ∙ ap not (and-false v.setting.drops)
 
-      by : (f : First) → marks.at_first inside c ≡ f → meant.Means sy inside none [] c (marks.of_first f) → entries.Stops v c ar f result new → Gives (read verdict) s v result new
+      by : (f : First) → marks.at_first inside c ≡ f → meant.Means sy inside none [] c (marks.of_first f) → entries.EndsTextRun v c ar f result new → Gives (read verdict) s v result new
       by (first.Begins n) e g k = spent result new k (λ answer (e, k).
           gives_ok (read verdict) s v what.Nothing (Ok answer) (entries.with_parts v (entries.undropped v.setting) (begun ar (cut v.place)) (record { mark = n; run = []; tag = no_tag v.pending.tag.syntax }) new.text) new (ap Ok e) k.is
           (record {
@@ -280,12 +280,12 @@ module _ (v : Reading) (s : reader.Scanning) (h : ReadsAs v s) (ar : Bool) (c : 
             setting = refl;
           }))
       by first.EmitText e g k = spent result new k (λ answer (e, k).
-          gives_ok (read verdict) s v what.Nothing (Ok answer) (entries.with_parts v (entries.undropped v.setting) (ended ar (entries.is_bracket v.setting c) (cut v.place)) (entries.marked mark.Nothing v.pending) new.text) new (ap Ok e) k.is
+          gives_ok (read verdict) s v what.Nothing (Ok answer) (entries.with_parts v (entries.undropped v.setting) (ended ar (entries.is_bracket v.setting c) (cut v.place)) (entries.with_mark mark.Nothing v.pending) new.text) new (ap Ok e) k.is
           (record {
-            scanned = record { next = reader.entering ar [] false (is_strict_literal right_bracket inside (character c)) s; items = run_item (kept run_text) ∷ reader.item_of inside (character c) (entry ∷ []) ∷ [] };
+            scanned = record { next = reader.entering ar [] false (is_strict_literal right_bracket inside (character c)) s; items = run_item (kept run_text) ∷ reader.item_of_run inside (character c) (entry ∷ []) ∷ [] };
             is = at (verdicts.whole (character c)) g.1;
-            reads_as = whole v s h ar (entries.marked mark.Nothing v.pending) (entries.undropped v.setting) new.text (ended ar (entries.is_bracket v.setting c) (cut v.place)) v.end false (is_strict_literal right_bracket inside (character c)) refl refl h.syntax refl;
-            told = grows_by _ _ _ (run_text ++ c ∷ []) (ap (λ t. joined (text_of t) (Some (c ∷ []))) (token_of_item inside (kept run_text) s.run)) k.text.text (first_kept (reader.item_of inside (character c) (entry ∷ []) ∷ [])) (λ z. cc) refl;
+            reads_as = whole v s h ar (entries.with_mark mark.Nothing v.pending) (entries.undropped v.setting) new.text (ended ar (entries.is_bracket v.setting c) (cut v.place)) v.end false (is_strict_literal right_bracket inside (character c)) refl refl h.syntax refl;
+            told = grows_by _ _ _ (run_text ++ c ∷ []) (ap (λ t. joined (text_of t) (Some (c ∷ []))) (token_of_item inside (kept run_text) s.run)) k.text.text (first_kept (reader.item_of_run inside (character c) (entry ∷ []) ∷ [])) (λ z. cc) refl;
             setting = refl;
           }))
       by (first.Refuses kind) e g k = refuses (read verdict) v s kind result new h (at (verdicts.refused kind) g) k
@@ -303,7 +303,7 @@ module _ (v : Reading) (s : reader.Scanning) (h : ReadsAs v s) (ar : Bool) (c : 
   token_is : (x : ℕ) (more : Chars) → text ≡ x ∷ more → reader.first_of s.run entry.first ≡ v.place.token
   token_is x more e = sym h.token ∙ some_mark sy inside v.pending.mark v.pending.run v.pending.tag text x more v.place h.pends e
 
-  gives_tags : (result : Result TokenKind Stop) (new : Reading) → meant.Tags sy inside v.pending text c → entries.Tags v c ar (entries.marked mark.Tag v.pending) result new → Gives (read verdict) s v result new
+  gives_tags : (result : Result TokenKind Stop) (new : Reading) → meant.Tags sy inside v.pending text c → entries.Tags v c ar (entries.with_mark mark.Tag v.pending) result new → Gives (read verdict) s v result new
   gives_tags (Ok what.Nothing) new m k =
       let t = k.0 in
       let step = step_in v.pending.tag.state (Ok t.state) k.1.0.0 in
@@ -350,7 +350,7 @@ module _ (v : Reading) (s : reader.Scanning) (h : ReadsAs v s) (ar : Bool) (c : 
   gives_tags _ new m k = absurd k
 
   -- in raw text what begins the end tag's name goes on
-  gives_keeps_tag : (n : ℕ) (result : Result TokenKind Stop) (new : Reading) → meant.KeepsTag sy inside v.pending text c n → entries.Tags v c ar (entries.kept_by (mark.RawEnd n) c v.pending) result new → Gives (read verdict) s v result new
+  gives_keeps_tag : (n : ℕ) (result : Result TokenKind Stop) (new : Reading) → meant.KeepsTag sy inside v.pending text c n → entries.Tags v c ar (entries.with_character (mark.RawEnd n) c v.pending) result new → Gives (read verdict) s v result new
   gives_keeps_tag n (Ok what.Nothing) new m k =
       let t = k.0 in
       let z = sym (step_in v.pending.tag.state (Ok t.state) k.1.0.0) ∙ m.step in
@@ -367,8 +367,8 @@ module _ (v : Reading) (s : reader.Scanning) (h : ReadsAs v s) (ar : Bool) (c : 
 
   by_move : (m : Move) → meant.Means sy inside v.pending text c m → (result : Result TokenKind Stop) (new : Reading) → entries.Enters v c ar (entries.judged v.setting v.place.two c m) result new → Gives (read verdict) s v result new
   by_move (move.Begins n) g result new k = gives_begins n result new g k.0 k.1
-  by_move (move.Continue n) g result new k = gives_went (entries.marked n v.pending) g.first g.more result new g.goes g.some h.syntax g.pends k.0 k.1
-  by_move (move.Keeps n) g result new k = went_as (entries.kept_by n c v.pending) g.first g.more result new g.goes g.some h.syntax g.pends k
+  by_move (move.Continue n) g result new k = gives_went (entries.with_mark n v.pending) g.first g.more result new g.goes g.some h.syntax g.pends k.0 k.1
+  by_move (move.Keeps n) g result new k = went_as (entries.with_character n c v.pending) g.first g.more result new g.goes g.some h.syntax g.pends k
   by_move (move.KeepsAfter b) g result new k =
       went_as (record { mark = mark.Section brackets.None; run = (v.pending.run ++ bracket_text b) ++ c ∷ []; tag = v.pending.tag }) g.first g.more result new g.goes g.some h.syntax g.pends k
   by_move move.Tags g result new k = gives_tags result new g k
@@ -387,4 +387,4 @@ module _ (v : Reading) (s : reader.Scanning) (h : ReadsAs v s) (ar : Bool) (c : 
 
   -- one character is what the reader of bytes says
   pub enters : (result : Result TokenKind Stop) (new : Reading) → entries.Enters v c ar (entries.move_at v c) result new → Gives (read verdict) s v result new
-  enters result new k = by_move (marks.move_of sy inside v.pending.mark c) (simulates sy inside v.pending text c h.pends) result new k
+  enters result new k = by_move (marks.scan_move sy inside v.pending.mark c) (simulates sy inside v.pending text c h.pends) result new k

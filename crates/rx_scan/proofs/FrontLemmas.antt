@@ -1,5 +1,5 @@
 -- What is taken at once is read like its bytes one after another: text with its references, and characters of a tag.
-use Rattle.rx_scan.proofs.Common.{◌≡◌, ◌∙◌, ℕ, ◌+◌, ◌-◌, ◌≤◌, ◌<◌, false, List, [], ◌∷◌, ◌++◌, length, take, drop, ap, sym, subst, arith, eqb-true, take-add, length-take-le, inl, inr, ◌⊎◌, Bool, true, refl, Option, Some, None, append_assoc, encode_utf8_all, length-drop, ◌==◌, MatchBool, IfSome, codes, eqb-false, cases_lt, and_parts, take_rest, list_all, all_scalars, Chars, begins_with, split, chars_from_encodes, Syntax, Html, Xhtml, meaning, MayStep, TakesFront, of_text, of_tag, of_opening, in_tag, Pending, run_on, Reading, ReadsAs, TellsFront, said, is_plain}
+use Rattle.rx_scan.proofs.Common.{◌≡◌, ◌∙◌, ℕ, ◌+◌, ◌-◌, ◌≤◌, ◌<◌, false, List, [], ◌∷◌, ◌++◌, length, take, drop, ap, sym, subst, arith, eqb-true, take-add, length-take-le, inl, inr, ◌⊎◌, Bool, true, refl, Option, Some, None, append_assoc, encode_utf8_all, length-drop, ◌==◌, MatchBool, IfSome, codes, eqb-false, cases_lt, and_parts, take_rest, list_all, all_scalars, Chars, begins_with, split, chars_from_encodes, Syntax, Html, Xhtml, meaning, MayStep, ReadsFront, of_text, of_tag, of_opening, with_tag_mark, Pending, run_on, Reading, ReadsAs, TellsFront, text_passed, is_plain_char}
 use Rattle.rx_scan.specs.declared.marks.TokenState.TheVariants as mark
 use Rattle.rx_pages.specs.PageReader as reader
 use Rattle.rx_scan.proofs.FeedLemmas.{feed_on, feeds_steps, open_on}
@@ -58,13 +58,13 @@ tells_chars l new front cs k e t =
     record {
       may = record { between = t.may.between; inside = t.may.may.inside; undropped = t.may.may.undropped; started = t.may.may.started; on_a_line = t.may.may.on_a_line };
       held = t.may.may.held;
-      plain = chars_plain cs (ap (list_all is_plain) e ∙ t.may.plain);
+      plain = chars_plain cs (ap (list_all is_plain_char) e ∙ t.may.plain);
       scalars = k;
       page = subst (λ (x : List ℕ). l.place.at + length x ≤ l.setting.limits.page) (sym e) t.may.page;
       text = t.text ∙ ap (λ x. l.text.text ++ x) (sym (chars_from_encodes cs front t.may.text e));
       size = t.size ∙ ap (λ x. l.text.size + length x) (sym e);
       room = t.room;
-      is = subst (λ (x : List ℕ). new ≡ entries.with_parts l (entries.undropped l.setting) (said (length x) l.place) l.pending new.text) (sym e) t.is;
+      is = subst (λ (x : List ℕ). new ≡ entries.with_parts l (entries.undropped l.setting) (text_passed (length x) l.place) l.pending new.text) (sym e) t.is;
     }
 
 module _ (old : Reading) (s : reader.Scanning) where
@@ -136,14 +136,14 @@ text_sum old l new bytes i n m k =
     rest = subst (λ (x : List ℕ). MatchBool (n == 0) (new ≡ l) (TellsText l (take n x) new)) (take_rest bytes i) k
 
 module _ (old new : Reading) (s : reader.Scanning) where
-  some_front : (front : List ℕ) (l : Reading) (bytes : List ℕ) → 0 < length front → ReadsOn old s bytes l → TakesFront l front new → ReadsOn old s (bytes ++ front) new
+  some_front : (front : List ℕ) (l : Reading) (bytes : List ℕ) → 0 < length front → ReadsOn old s bytes l → ReadsFront l front new → ReadsOn old s (bytes ++ front) new
   some_front front l bytes k r (of_text t) = text_on old s l bytes r front new t
   some_front (b ∷ front) l bytes k r (of_tag t) = feed_on old new s b front l bytes r t
   some_front (b ∷ front) l bytes k r (of_opening t) = open_on old new s b front l bytes r t
   some_front [] l bytes k r _ = absurd (omega arith)
 
   -- what is taken at once behind so many bytes of a piece
-  pub front_read : (l : Reading) (piece : List ℕ) (i n : ℕ) → n ≤ length (drop i piece) → ReadsOn old s (take i piece) l → MatchBool (n == 0) (new ≡ l) (TakesFront l (take n (drop i piece)) new) → ReadsOn old s (take (i + n) piece) new
+  pub front_read : (l : Reading) (piece : List ℕ) (i n : ℕ) → n ≤ length (drop i piece) → ReadsOn old s (take i piece) l → MatchBool (n == 0) (new ≡ l) (ReadsFront l (take n (drop i piece)) new) → ReadsOn old s (take (i + n) piece) new
   front_read l piece i n k r m =
       match_by (n == 0) _ _ m
       (λ z e. subst (λ (x : ℕ). ReadsOn old s (take x piece) new) (let q : n ≡ 0 = eqb-true n 0 z in omega arith) (subst (λ (x : Reading). ReadsOn old s (take i piece) x) (sym e) r))
@@ -159,7 +159,7 @@ pub record IsKept (l : Reading) (n : ℕ) (new : Reading) : Type 0 where
 some_kept : (l new : Reading) (n : ℕ) → (n == 0) ≡ false → (l.pending.mark ≡ mark.Nothing → new.pending.mark ≡ mark.Nothing) → (MayStep l.pending.tag → MayStep new.pending.tag) → (new.text.text ≡ l.text.text) ⊎ (l.pending.mark ≡ mark.Nothing) → IsKept l n new
 some_kept l new n z b s a = record { between = b; steps = s; apart = a; none = λ q. absurd (eqb-false n 0 z q) }
 
-pub kept : (l new : Reading) (front : List ℕ) (n : ℕ) → MatchBool (n == 0) (new ≡ l) (TakesFront l front new) → IsKept l n new
+pub kept : (l new : Reading) (front : List ℕ) (n : ℕ) → MatchBool (n == 0) (new ≡ l) (ReadsFront l front new) → IsKept l n new
 kept l new front n m =
     match_by (n == 0) _ _ m
     (λ z e. record {
@@ -170,13 +170,13 @@ kept l new front n m =
     })
     (λ z t. by z t)
   where
-    by : (n == 0) ≡ false → TakesFront l front new → IsKept l n new
+    by : (n == 0) ≡ false → ReadsFront l front new → IsKept l n new
     by z (of_text t) =
         some_kept l new n z (λ m. ap (λ (x : Pending). x.mark) (text_between l front new t).0 ∙ m)
         (λ k. subst (λ (x : Pending). MayStep x.tag) (sym (text_between l front new t).0) k) (inr (text_between l front new t).1)
     by z (of_tag t) = some_kept l new n z (λ m. ap (λ (x : Reading). x.pending.mark) t.is ∙ m) (λ k. feeds_steps l new front t k) (inl (ap (λ (x : Reading). x.text.text) t.is))
     by z (of_opening t) =
-        some_kept l new n z (λ m. absurd (let e = sym t.opened ∙ m in cc)) (λ k. feeds_steps (in_tag l) new front t.feeds k) (inl (ap (λ (x : Reading). x.text.text) t.feeds.is))
+        some_kept l new n z (λ m. absurd (let e = sym t.opened ∙ m in cc)) (λ k. feeds_steps (with_tag_mark l) new front t.feeds k) (inl (ap (λ (x : Reading). x.text.text) t.feeds.is))
 
 module _ (l new : Reading) (n : ℕ) (k : IsKept l n new) where
   pub apart_on : (l.text.text ≡ []) ⊎ (l.pending.mark ≡ mark.Nothing) → (new.text.text ≡ []) ⊎ (new.pending.mark ≡ mark.Nothing)
@@ -186,14 +186,14 @@ module _ (l new : Reading) (n : ℕ) (k : IsKept l n new) where
   later_on i h x = elim (cases_lt 0 n) [ inl a ↦ omega (arith, a) | inr b ↦ let p = h (λ z. x (k.none (omega (arith, b)) ∙ z)) in omega (arith, p) ]
 
 -- at the first byte of a piece
-pub front_first : (old new : Reading) (s : reader.Scanning) (piece : List ℕ) (n : ℕ) → old.text.text ≡ [] → n ≤ length piece → ReadsAs old s → MatchBool (n == 0) (new ≡ old) (TakesFront old (take n piece) new) → ReadsOn old s (take n piece) new
+pub front_first : (old new : Reading) (s : reader.Scanning) (piece : List ℕ) (n : ℕ) → old.text.text ≡ [] → n ≤ length piece → ReadsAs old s → MatchBool (n == 0) (new ≡ old) (ReadsFront old (take n piece) new) → ReadsOn old s (take n piece) new
 front_first old new s piece n e k h m = subst (λ (x : ℕ). ReadsOn old s (take x piece) new) (omega arith) (front_read old new s old piece 0 n k (reads_none old s e h) m)
 
 -- and further on, where a slice is what is left
-pub front_next : (old l new : Reading) (s : reader.Scanning) (piece : List ℕ) (i n : ℕ) → n ≤ length (take (length piece - i) (drop i piece)) → ReadsOn old s (take i piece) l → MatchBool (n == 0) (new ≡ l) (TakesFront l (take n (take (length piece - i) (drop i piece))) new) → ReadsOn old s (take (i + n) piece) new
+pub front_next : (old l new : Reading) (s : reader.Scanning) (piece : List ℕ) (i n : ℕ) → n ≤ length (take (length piece - i) (drop i piece)) → ReadsOn old s (take i piece) l → MatchBool (n == 0) (new ≡ l) (ReadsFront l (take n (take (length piece - i) (drop i piece))) new) → ReadsOn old s (take (i + n) piece) new
 front_next old l new s piece i n k r m =
     let rest = take_rest piece i in
-    front_read old new s l piece i n (subst (λ (x : List ℕ). n ≤ length x) rest k) r (subst (λ (x : List ℕ). MatchBool (n == 0) (new ≡ l) (TakesFront l (take n x) new)) rest m)
+    front_read old new s l piece i n (subst (λ (x : List ℕ). n ≤ length x) rest k) r (subst (λ (x : List ℕ). MatchBool (n == 0) (new ≡ l) (ReadsFront l (take n x) new)) rest m)
 
 pub front_within : (piece : List ℕ) (i n : ℕ) → i ≤ length piece → n ≤ length (take (length piece - i) (drop i piece)) → i + n ≤ length piece
 front_within piece i n h k = let q = subst (λ (x : List ℕ). n ≤ length x) (take_rest piece i) k in omega (arith, q, length-drop i piece)

@@ -1,5 +1,5 @@
 -- The byte order mark: what the reader of bytes makes of its bytes.
-use Rattle.rx_scan.proofs.Common.{◌≡◌, ◌∙◌, ◌⊎◌, ℕ, Bool, true, false, List, [], ◌∷◌, ◌++◌, refl, ap, sym, subst, Result, Ok, Err, inl, inr, length, arith, append_assoc, append-nil, ◌&&◌, ◌||◌, ◌==◌, not, nat_le, cond-true, cond-false, by_test, split, length-append, answer_of, More, Char, Bad, Entry, byte_order_mark, line_feed, carriage_return, as_line_end, Syntax, Item, values, is_literal, Utf8Step, answers_from, tables_agree, Fault, Kind, Limits, snoc_front, snoc_last, scan_fault, mark_bytes, HasMark}
+use Rattle.rx_scan.proofs.Common.{◌≡◌, ◌∙◌, ◌⊎◌, ℕ, Bool, true, false, List, [], ◌∷◌, ◌++◌, refl, ap, sym, subst, Result, Ok, Err, inl, inr, length, arith, append_assoc, append-nil, ◌&&◌, ◌||◌, ◌==◌, not, nat_le, cond-true, cond-false, by_test, split, length-append, answer_of, More, Char, Bad, PlacedCharacter, byte_order_mark, line_feed, carriage_return, as_line_end, Syntax, Item, values, is_literal, Utf8Step, answers_from, tables_agree, Fault, Kind, Limits, snoc_front, snoc_last, scan_fault, mark_bytes, HasMark}
 use Rattle.rx_pages.specs.Scanner as verdicts
 use Rattle.rx_pages.specs.PageReader as reader
 use Rattle.rx_pages.proofs.Reading.{no_last, a_last, last_of}
@@ -62,8 +62,8 @@ module _ (sy : Syntax) (lim : Limits) (spot : reader.Spot) where
       at_mark e =
           by_test (reader.is_too_long sy lim spot s.run (reader.token_at s) s.at) (λ t. no_fault _ x (sym (cond-true _ _ _ t) ∙ e))
           (λ t.
-          let w : ◌≡◌ {A = Result reader.Scanned Kind} (Ok (record { next = reader.passed s; items = [] })) (Ok x) = sym (cond-true _ _ _ (ap (λ b. not b && true || s.after_return && byte_order_mark == line_feed) f)) ∙ (sym (cond-false _ _ _ t) ∙ e) in
-          let same : record { next = reader.passed s; items = [] } ≡ x = cc in
+          let w : ◌≡◌ {A = Result reader.Scanned Kind} (Ok (record { next = reader.passed_over s; items = [] })) (Ok x) = sym (cond-true _ _ _ (ap (λ b. not b && true || s.after_return && byte_order_mark == line_feed) f)) ∙ (sym (cond-false _ _ _ t) ∙ e) in
+          let same : record { next = reader.passed_over s; items = [] } ≡ x = cc in
           ap (λ (y : reader.Scanned). y.items) (sym same))
 
   -- an entry starts the page
@@ -71,9 +71,9 @@ module _ (sy : Syntax) (lim : Limits) (spot : reader.Spot) where
   Starts (Ok x) = x.next.started ≡ true
   Starts (Err kind) = Unit {0}
 
-  told_starts : (ar : Bool) (entry : Entry) (s : reader.Scanning) (w : verdicts.Verdict) → Starts (reader.told_first sy lim spot ar entry s w)
+  told_starts : (ar : Bool) (entry : PlacedCharacter) (s : reader.Scanning) (w : verdicts.Verdict) → Starts (reader.told_first sy lim spot ar entry s w)
   told_starts ar entry s (verdicts.whole token) =
-      let item : Item = reader.item_of spot.inside token (s.run ++ entry ∷ []) in
+      let item : Item = reader.item_of_run spot.inside token (s.run ++ entry ∷ []) in
       split Starts (s.two && is_literal 62 item) _ _ (λ t. tt) (λ t. split Starts (reader.is_doctype item.token && not spot.leads) _ _ (λ u. tt) (λ u. refl))
   told_starts ar entry s (verdicts.refused kind) = tt
   told_starts ar entry s _ = refl
@@ -82,14 +82,14 @@ module _ (sy : Syntax) (lim : Limits) (spot : reader.Spot) where
   with_starts item (Ok x) h = h
   with_starts item (Err kind) h = tt
 
-  all_starts : (ar : Bool) (entry : Entry) (s : reader.Scanning) (w : verdicts.Verdict) → Starts (reader.told sy lim spot ar entry s w)
+  all_starts : (ar : Bool) (entry : PlacedCharacter) (s : reader.Scanning) (w : verdicts.Verdict) → Starts (reader.told sy lim spot ar entry s w)
   all_starts ar entry s (verdicts.ended token) =
-      with_starts (reader.item_of spot.inside token s.run) (reader.told_first sy lim spot ar entry (reader.after_token sy lim spot s) (verdicts.verdict sy spot.inside [] entry.value)) (told_starts ar entry (reader.after_token sy lim spot s) (verdicts.verdict sy spot.inside [] entry.value))
+      with_starts (reader.item_of_run spot.inside token s.run) (reader.told_first sy lim spot ar entry (reader.after_token sy lim spot s) (verdicts.verdict sy spot.inside [] entry.value)) (told_starts ar entry (reader.after_token sy lim spot s) (verdicts.verdict sy spot.inside [] entry.value))
   all_starts ar entry s w = told_starts ar entry s w
 
   char_starts : (c : ℕ) (s : reader.Scanning) → Starts (reader.read_char sy lim spot c s)
   char_starts c s =
-      let entry : Entry = record { value = as_line_end c; first = reader.starts_at s; last = s.at } in
+      let entry : PlacedCharacter = record { value = as_line_end c; first = reader.starts_at s; last = s.at } in
       split Starts (not s.started && c == byte_order_mark || s.after_return && c == line_feed) _ _ (λ t. refl)
       (λ t. split Starts (reader.is_too_long sy lim spot (s.run ++ entry ∷ []) (reader.first_of s.run entry.first) entry.last) _ _ (λ u. tt) (λ u. all_starts (c == carriage_return) entry s (verdicts.verdict sy spot.inside (values s.run) entry.value)))
 

@@ -1,5 +1,5 @@
 -- Between tokens, behind `<`, and in raw text a move says what the verdict is.
-use Rattle.rx_scan.proofs.Common.{◌≡◌, ◌∙◌, ℕ, true, false, [], ◌∷◌, ◌++◌, refl, ap, sym, subst, Option, Ok, Err, append_assoc, append-nil, eqb-true, ◌+◌, Bool, Some, length, map, take, drop, slice_get, inl, inr, arith, add-one, ◌==◌, ◌&&◌, ◌||◌, not, cond-true, cond-false, or_left, or_right, or_from, and_from, or_parts, Chars, begins_with, lowered, split, by_test, both, either, list_all, nat_tests, length-map, map-append, length-append, less_than_sign, solidus, lowered_char, is_letter, is_white_space, between, and-false, Syntax, Html, Xhtml, name_of_raw, same, meaning, begins_tag, is_tag_char, ends_name, begins, comment, kept, has_markup, has_references, has_less_than, is_text, begins_markup, raw_name, begins_end, stops_end, is_known_tag, is_known_raw, is_known_end, cased_char, Content, BadTag, is_html, is_last, move_of, TagState, fresh, tag_step, moved, checked, tag_on, drop-append_seam, take-append_seam, RawName, tag_on-append, equal, same_self, markup_is, raw_is, TagSoFar, no_tag, MayStep, Pending, first_char, PendsAs, InLessThan, InTag, InRawEnd, end_phase, Means}
+use Rattle.rx_scan.proofs.Common.{◌≡◌, ◌∙◌, ℕ, true, false, [], ◌∷◌, ◌++◌, refl, ap, sym, subst, Option, Ok, Err, append_assoc, append-nil, eqb-true, ◌+◌, Bool, Some, length, map, take, drop, slice_get, inl, inr, arith, add-one, ◌==◌, ◌&&◌, ◌||◌, not, cond-true, cond-false, or_left, or_right, or_from, and_from, or_parts, Chars, begins_with, lowered, split, by_test, both, either, list_all, nat_tests, length-map, map-append, length-append, less_than_sign, solidus, lowered_char, is_letter, is_white_space, between, and-false, Syntax, Html, Xhtml, name_of_raw, same, meaning, begins_tag, is_tag_char, ends_name, begins, comment, kept, has_markup, has_references, has_less_than, is_text, begins_markup, raw_name, begins_end, stops_end, is_known_tag, is_known_raw, is_known_end, cased_char, Content, BadTag, is_html_syntax, is_last, move_of, TagState, fresh, tag_step, moved, checked, tag_on, drop-append_seam, take-append_seam, RawName, tag_on-append, equal, same_self, markup_is, raw_is, TagSoFar, no_tag, MayStep, Pending, first_char, PendsAs, InLessThan, InTag, InRawEnd, end_phase, Means}
 use Rattle.rx_grammar.specs.declared.contents.Content.TheVariants as content
 use Rattle.rx_pages.specs.Scanner as told
 use Rattle.rx_scan.specs.declared.marks.TokenState.TheVariants as mark
@@ -31,7 +31,7 @@ less_than_begins s _ t e = record { are = refl; none = refl; markup = refl; stat
 module _ (s : Syntax) (i : Content) (p : Pending) (text : Chars) (c : ℕ) where
   pub at_nothing_means : text ≡ [] → Means s i p text c (marks.of_first (marks.at_first i c))
   at_nothing_means e =
-      let v : told.verdict s i text c ≡ told.at_first i c = ap (λ x. told.verdict s i x c) e in
+      let v : told.verdict s i text c ≡ told.first_verdict i c = ap (λ x. told.verdict s i x c) e in
       split (λ (f : First). Means s i p text c (marks.of_first f)) (c == 60) _ _
       (λ k. record { none = e; goes = v ∙ cond-true _ _ _ (or_left _ _ k); pends = λ t n. subst (λ (x : ℕ). PendsAs s i (marks.less_than_mark i) [] t (x ∷ [])) (sym (eqb-true c 60 k)) (less_than_begins s i t n) })
       (λ a. split (λ (f : First). Means s i p text c (marks.of_first f)) (c == 38 && has_references i) _ _
@@ -111,7 +111,7 @@ module _ (s : Syntax) (i : Content) (p : Pending) (text : Chars) (c : ℕ) (h : 
         pends = subst (λ (x : Chars). PendsAs s i (marks.question s) p.run p.tag x) (sym (grows 63 (eqb-true c 63 k))) (question_begins s i p.run p.tag h.markup);
       })
       (λ b. let u = verdict_is ∙ cond-false _ _ _ (or_from _ _ a b) in
-      split (λ (k : Move). Means s i p text c k) (is_html s && not (begins_markup c)) _ _
+      split (λ (k : Move). Means s i p text c k) (is_html_syntax s && not (begins_markup c)) _ _
       (λ k. less_than_stops (u ∙ cond-true _ _ _ k))
       (λ k. record {
         chars = [];

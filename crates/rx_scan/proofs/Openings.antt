@@ -38,7 +38,7 @@ module _ (s : Syntax) (w : Word) (t : Chars) (next : ℕ) (left : Chars) (e : ma
   word_short =
       ap (begins_with (marks.opening_text s w)) (sym (plain_is s w t)) ∙ (ap (λ x. begins_with x (map (marks.opening_char s w) t)) e ∙ short (map (marks.opening_char s w) t) next left)
 
-  pub word_unlike : (c : ℕ) (more : Chars) → marks.is_next s w next c ≡ false → begins_word s w (t ++ c ∷ more) ≡ false
+  pub word_unlike : (c : ℕ) (more : Chars) → marks.continues_word s w next c ≡ false → begins_word s w (t ++ c ∷ more) ≡ false
   word_unlike c more h = word_more c more ∙ ap (λ b. b && begins_with left (map (marks.opening_char s w) more)) (either_way next (marks.opening_char s w c) ∙ h)
 
 -- a character that is lowered to `d` isn't another one of no letter
@@ -193,9 +193,9 @@ module _ (s : Syntax) (i : Content) (p : Pending) (text : Chars) (c : ℕ) (w : 
   more_means [] l q begun v = subst (λ (b : Bool). Means s i p text c (cond b (marks.begun_word s i w) (move.Continue (mark.Opening w (n + 1))))) (sym (whole_word l)) (begun l)
   more_means (d ∷ left) l q begun v = subst (λ (b : Bool). Means s i p text c (cond b (marks.begun_word s i w) (move.Continue (mark.Opening w (n + 1))))) (sym (part_word d left l)) (longer d left l q (v d left l))
 
-  by_next : (marks.opening_char s w c ≡ h.next → Means s i p text c (marks.more_of_word s i w (n + 1))) → (marks.is_next s w h.next c ≡ false → Means s i p text c (marks.unlike s c)) → Means s i p text c (marks.in_word s i w (slice_get (marks.opening_text s w) n) n c)
+  by_next : (marks.opening_char s w c ≡ h.next → Means s i p text c (marks.more_of_word s i w (n + 1))) → (marks.continues_word s w h.next c ≡ false → Means s i p text c (marks.unlike s c)) → Means s i p text c (marks.in_word s i w (slice_get (marks.opening_text s w) n) n c)
   by_next f g = subst (λ (o : Option ℕ). Means s i p text c (marks.in_word s i w o n c)) (sym (word_at (marks.opening_text s w) (map (marks.opening_char s w) t) (h.next ∷ h.left) n h.word (length-map t (marks.opening_char s w) ∙ h.count)))
-      (split (λ (m : Move). Means s i p text c m) (marks.is_next s w h.next c) _ _ (λ k. f (eqb-true (marks.opening_char s w c) h.next k)) g)
+      (split (λ (m : Move). Means s i p text c m) (marks.continues_word s w h.next c) _ _ (λ k. f (eqb-true (marks.opening_char s w c) h.next k)) g)
 
   -- the first one
   begins_as : marks.opening_char s w h.first ∷ [] ≡ head_list (marks.opening_text s w)
@@ -287,7 +287,7 @@ module _ (i : Content) (p : Pending) (text : Chars) (c : ℕ) where
       ∙ (cond-false _ _ _ (ap (λ b. b && not (has_sections i)) (no_word w h.first (h.chars ++ c ∷ []) (begins_as Xhtml i p text c w n h) yet).section)
       ∙ cond-true _ _ _ (begins_some w x (ap (begins_with x) front ∙ begins_append x h.left)))
 
-  strict_refuses : (w : Word) (n : ℕ) (h : InOpening Xhtml i w n p.run text) → marks.is_next Xhtml w h.next c ≡ false → told.verdict Xhtml i text c ≡ told.refused BadTag
+  strict_refuses : (w : Word) (n : ℕ) (h : InOpening Xhtml i w n p.run text) → marks.continues_word Xhtml w h.next c ≡ false → told.verdict Xhtml i text c ≡ told.refused BadTag
   strict_refuses w n h k =
       let t = h.first ∷ h.chars in
       let x = t ++ c ∷ [] in

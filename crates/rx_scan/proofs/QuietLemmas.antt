@@ -47,10 +47,10 @@ module _ (l new : Reading) (byte : ℕ) (answer : TokenKind) (m : l.pending.mark
   arrive : (other : TokenKind) → result ≡ Ok other → answer ≡ other
   arrive other e = cc
 
-  does_say : (d : ℕ) (place : Position) → entries.Says l d place result new → Does l byte answer new
+  does_say : (d : ℕ) (place : Position) → entries.SaysCharacter l d place result new → Does l byte answer new
   does_say d place k = by answer refl k
     where
-      by : (other : TokenKind) → answer ≡ other → entries.Says l d place (Ok other) new → Does l byte answer new
+      by : (other : TokenKind) → answer ≡ other → entries.SaysCharacter l d place (Ok other) new → Does l byte answer new
       by what.Nothing e k = says e (ap (λ (x : Reading). x.pending.mark) k.1.is)
       by what.Skipped e k = skips (inl (both l.setting.drops _ k.0).0) e (ap (λ (x : Reading). x.pending.mark) k.1)
       by _ e k = absurd k
@@ -72,20 +72,20 @@ module _ (l new : Reading) (byte : ℕ) (answer : TokenKind) (m : l.pending.mark
 
   does_char : (c : ℕ) → answer_of (l.held ++ byte ∷ []) ≡ Char c → entries.ReadsChar l c result new → Does l byte answer new
   does_char c e k =
-      match_by (entries.is_passed l.place c) _ _ k
+      match_by (entries.passes_over l.place c) _ _ k
       (λ t k. passed (either (not l.place.started && c == 65279) _ t) k.0 (ap (λ (x : Reading). x.pending.mark) k.1 ∙ m))
       (λ t k. match_by (entries.is_long l (known_tags.is_tag_with l.setting.syntax l.setting.inside l.pending.mark (as_line_end c))) _ _ k
       (λ u k. no_fault _ k)
       (λ u k. does_first (as_line_end c) (c == carriage_return) (λ d q n h. last_byte l.held byte d (e ∙ ap Char (begins_line c d q n)) h)
-      (subst (λ (x : TokenState). entries.Enters l (as_line_end c) (c == carriage_return) (entries.judged l.setting l.place.two (as_line_end c) (marks.move_of l.setting.syntax l.setting.inside x (as_line_end c))) result new) m k)))
+      (subst (λ (x : TokenState). entries.Enters l (as_line_end c) (c == carriage_return) (entries.judged l.setting l.place.two (as_line_end c) (marks.scan_move l.setting.syntax l.setting.inside x (as_line_end c))) result new) m k)))
     where
-      passed : ((not l.place.started && c == 65279) ≡ true) ⊎ ((l.place.after_return && c == 10) ≡ true) → result ≡ Ok (entries.is_mark c) → new.pending.mark ≡ mark.Nothing → Does l byte answer new
+      passed : ((not l.place.started && c == 65279) ≡ true) ⊎ ((l.place.after_return && c == 10) ≡ true) → result ≡ Ok (entries.kind_of_mark c) → new.pending.mark ≡ mark.Nothing → Does l byte answer new
       passed (inl a) q k =
           let p = both (not l.place.started) _ a in
-          skips (inr (untrue l.place.started p.0)) (let z : entries.is_mark c ≡ what.Skipped = ap entries.is_mark (eqb-true c 65279 p.1) in arrive what.Skipped (q ∙ ap Ok z)) k
-      passed (inr a) q k = says (let z : entries.is_mark c ≡ what.Nothing = ap entries.is_mark (eqb-true c 10 (both l.place.after_return _ a).1) in arrive what.Nothing (q ∙ ap Ok z)) k
+          skips (inr (untrue l.place.started p.0)) (let z : entries.kind_of_mark c ≡ what.Skipped = ap entries.kind_of_mark (eqb-true c 65279 p.1) in arrive what.Skipped (q ∙ ap Ok z)) k
+      passed (inr a) q k = says (let z : entries.kind_of_mark c ≡ what.Nothing = ap entries.kind_of_mark (eqb-true c 10 (both l.place.after_return _ a).1) in arrive what.Nothing (q ∙ ap Ok z)) k
 
-  pub does : entries.Reads l byte result new → Does l byte answer new
+  pub does : entries.ReadsByte l byte result new → Does l byte answer new
   does k =
       match_by (nat_le l.setting.limits.page l.place.at) _ _ k
       (λ t k. no_fault _ k)
@@ -94,15 +94,15 @@ module _ (l new : Reading) (byte : ℕ) (answer : TokenKind) (m : l.pending.mark
       by : (a : Utf8Step) → answer_of (l.held ++ byte ∷ []) ≡ a → entries.ReadsAnswer l (l.held ++ byte ∷ []) a result new → Does l byte answer new
       by Bad e k = no_fault _ k
       by More e k =
-          match_by (entries.is_long l (known_tags.is_tag l.pending.mark)) _ _ k
+          match_by (entries.is_long l (known_tags.lies_in_tag l.pending.mark)) _ _ k
           (λ u k. no_fault _ k)
           (λ u k. says (arrive what.Nothing k.0) (ap (λ (x : Reading). x.pending.mark) k.1 ∙ m))
       by (Char c) e k =
           match_by (c == 0) _ _ k (λ t k. no_fault _ k)
-          (λ t k. match_by (entries.is_long l (known_tags.is_tag l.pending.mark)) _ _ k (λ u k. no_fault _ k) (λ u k. does_char c e k))
+          (λ t k. match_by (entries.is_long l (known_tags.lies_in_tag l.pending.mark)) _ _ k (λ u k. no_fault _ k) (λ u k. does_char c e k))
 
 -- where text is told nothing else is
-pub apart_tells : (l new : Reading) (byte : ℕ) (answer : TokenKind) → IsApart l → entries.Reads l byte (Ok answer) new → answer ≡ what.Nothing
+pub apart_tells : (l new : Reading) (byte : ℕ) (answer : TokenKind) → IsApart l → entries.ReadsByte l byte (Ok answer) new → answer ≡ what.Nothing
 apart_tells l new byte answer a k = elim (does l new byte answer a.mark k) [
   | says e m ↦ e
   | begins e m ↦ e
@@ -110,7 +110,7 @@ apart_tells l new byte answer a k = elim (does l new byte answer a.mark k) [
 ]
 
 -- a quiet byte begins no token
-pub quiet_tells : (l new : Reading) (byte : ℕ) (answer : TokenKind) → l.pending.mark ≡ mark.Nothing → not (byte == 60 || byte == 38) ≡ true → entries.Reads l byte (Ok answer) new → new.pending.mark ≡ mark.Nothing
+pub quiet_tells : (l new : Reading) (byte : ℕ) (answer : TokenKind) → l.pending.mark ≡ mark.Nothing → not (byte == 60 || byte == 38) ≡ true → entries.ReadsByte l byte (Ok answer) new → new.pending.mark ≡ mark.Nothing
 quiet_tells l new byte answer n q k = elim (does l new byte answer n k) [
   | says e m ↦ m
   | begins e m ↦ absurd (let z = sym m ∙ untrue (byte == 60 || byte == 38) q in cc)
@@ -118,7 +118,7 @@ quiet_tells l new byte answer n q k = elim (does l new byte answer n k) [
 ]
 
 -- no byte between tokens ends a tag
-pub between_tells : (l new : Reading) (byte : ℕ) (answer : TokenKind) → l.pending.mark ≡ mark.Nothing → entries.Reads l byte (Ok answer) new → is_tag answer ≡ false
+pub between_tells : (l new : Reading) (byte : ℕ) (answer : TokenKind) → l.pending.mark ≡ mark.Nothing → entries.ReadsByte l byte (Ok answer) new → is_tag answer ≡ false
 between_tells l new byte answer n k = elim (does l new byte answer n k) [
   | says e m ↦ ap is_tag e
   | begins e m ↦ ap is_tag e
@@ -172,12 +172,12 @@ module _ (old l new : Reading) (s : reader.Scanning) (piece : List ℕ) (i : ℕ
   abbrev byte : ℕ
   byte = get_or piece i 0
 
-  pub next_read : (answer : TokenKind) → is_token answer ≡ false → entries.Reads l byte (Ok answer) new → ReadsOn old s (take (i + 1) piece) new
+  pub next_read : (answer : TokenKind) → is_token answer ≡ false → entries.ReadsByte l byte (Ok answer) new → ReadsOn old s (take (i + 1) piece) new
   next_read what.Nothing t e = subst (λ (x : List ℕ). ReadsOn old s x new) (sym (take_more piece i 0 k)) (reads_more old l s (take i piece) r byte new e)
   next_read what.Text t e = absurd (reads_other l r.scanned.next r.reads_as byte (Ok what.Text) new (λ q. cc) e).told
   next_read _ t e = absurd (cc)
 
-  pub token_read : (answer : TokenKind) → is_token answer ≡ true → (l.text.text ≡ []) ⊎ (l.pending.mark ≡ mark.Nothing) → entries.Reads l byte (Ok answer) new → Took old s piece (i + 1) answer new
+  pub token_read : (answer : TokenKind) → is_token answer ≡ true → (l.text.text ≡ []) ⊎ (l.pending.mark ≡ mark.Nothing) → entries.ReadsByte l byte (Ok answer) new → Took old s piece (i + 1) answer new
   token_read answer t o e = by l.text.text refl
     where
       by : (text : Chars) → l.text.text ≡ text → Took old s piece (i + 1) answer new
@@ -187,7 +187,7 @@ module _ (old l new : Reading) (s : reader.Scanning) (piece : List ℕ) (i : ℕ
         | inr m ↦ absurd (let z = sym t ∙ ap is_token (apart_tells l new byte answer (apart old l s (take i piece) r (λ n. let y = sym q ∙ n in cc) m) e) in cc)
       ]
 
-  pub stopped : (stop : Stop) (taken : ℕ) → taken ≡ i → (l.text.text ≡ []) ⊎ (l.pending.mark ≡ mark.Nothing) → entries.Reads l byte (Err stop) new → (l.pending.mark ≡ mark.Nothing → entries.Between l (Err stop) new) → entries.IfFault {A = TokenKind} (Err stop) (new.text.text ≡ l.text.text)
+  pub stopped : (stop : Stop) (taken : ℕ) → taken ≡ i → (l.text.text ≡ []) ⊎ (l.pending.mark ≡ mark.Nothing) → entries.ReadsByte l byte (Err stop) new → (l.pending.mark ≡ mark.Nothing → entries.Between l (Err stop) new) → entries.IfFault {A = TokenKind} (Err stop) (new.text.text ≡ l.text.text)
       → Runs old s piece (stopped_at new.text.text taken stop) new
   stopped stop.NoMemory taken c o e b x = tt
   stopped (stop.Fault fault) taken c o e b x = by l.text.text refl

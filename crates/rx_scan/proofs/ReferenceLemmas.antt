@@ -1,5 +1,5 @@
 -- A reference that is taken at once is read like its bytes one after another.
-use Rattle.rx_scan.proofs.Common.{◌≡◌, ◌∙◌, ℕ, ◌+◌, ◌≤◌, ◌<◌, true, false, List, [], ◌∷◌, ◌++◌, length, refl, ap, sym, subst, Option, Some, Ok, append_assoc, append-nil, arith, encode_utf8_all, ◌-◌, take, ◌&&◌, ◌==◌, not, list_all, cond-true, and_parts, or_from, ne_eqb, nat_tests, list_all-append, is_ascii, Chars, ascii-same, and-false, length-append, as_line_end, meaning, values, Syntax, first_whole, run_move, take-append_seam, RunPhase, RunMove, no_tag, PendsAs, run_on, Buffered, said, ended, entered, Reading, IsReference, TellsReference, body_from, body_length, BeginsReference}
+use Rattle.rx_scan.proofs.Common.{◌≡◌, ◌∙◌, ℕ, ◌+◌, ◌≤◌, ◌<◌, true, false, List, [], ◌∷◌, ◌++◌, length, refl, ap, sym, subst, Option, Some, Ok, append_assoc, append-nil, arith, encode_utf8_all, ◌-◌, take, ◌&&◌, ◌==◌, not, list_all, cond-true, and_parts, or_from, ne_eqb, nat_tests, list_all-append, is_ascii, Chars, ascii-same, and-false, length-append, as_line_end, meaning, values, Syntax, first_whole, run_move, take-append_seam, RunPhase, RunMove, no_tag, PendsAs, run_on, Buffered, text_passed, ended, entered, Reading, IsReference, TellsReference, body_from, body_length, BeginsReference}
 use Rattle.rx_pages.specs.PageReader as reader
 use Rattle.rx_reader.specs.declared.phases.RunPhase.TheVariants as run
 use Rattle.rx_reader.specs.declared.phases.RunMove.TheVariants as run_moves
@@ -22,14 +22,14 @@ record IsAlone (v : Reading) (b : ℕ) : Type 0 where
   started : v.place.started ≡ true
   on_a_line : v.place.after_return ≡ false
   page : v.place.at < v.setting.limits.page
-  no_tag : known_tags.is_tag v.pending.mark ≡ false
+  no_tag : known_tags.lies_in_tag v.pending.mark ≡ false
   never_tag : (c : ℕ) → known_tags.is_tag_with v.setting.syntax v.setting.inside v.pending.mark c ≡ false
   some : (b == 0) ≡ false
   no_return : (b == 13) ≡ false
   ascii : b ≤ 127
 
 module _ (v new : Reading) (b : ℕ) (t : IsAlone v b) (does : entries.Enters v b false (entries.move_at v b) (Ok what.Nothing) new) where
-  reads_alone : entries.Reads v b (Ok what.Nothing) new
+  reads_alone : entries.ReadsByte v b (Ok what.Nothing) new
   reads_alone =
       other_read v new [] b b (Ok what.Nothing) t.held (first_whole b t.ascii) t.page t.some (ap (entries.is_long v) t.no_tag) (ap (entries.is_long v) (t.never_tag (as_line_end b)))
       (or_from _ _ (ap (λ x. not x && (b == 65279)) t.started) (ap (λ x. x && (b == 10)) t.on_a_line)) t.no_return does
@@ -65,7 +65,7 @@ run_ends (c ∷ text) p q e f = absurd (cc)
 
 -- the ampersand
 module _ (l new : Reading) (front : List ℕ) (t : TellsReference l front new) (room : l.place.at < l.setting.limits.page) where
-  reads_ampersand : entries.Reads l 38 (Ok what.Nothing) (in_reference l 1 run.Ampersand [])
+  reads_ampersand : entries.ReadsByte l 38 (Ok what.Nothing) (in_reference l 1 run.Ampersand [])
   reads_ampersand =
       reads_alone l (in_reference l 1 run.Ampersand []) 38
       (record {
@@ -73,14 +73,14 @@ module _ (l new : Reading) (front : List ℕ) (t : TellsReference l front new) (
         started = t.may.started;
         on_a_line = t.may.on_a_line;
         page = room;
-        no_tag = ap known_tags.is_tag t.between;
+        no_tag = ap known_tags.lies_in_tag t.between;
         never_tag = λ c. ap (λ (x : TokenState). known_tags.is_tag_with l.setting.syntax l.setting.inside x c) t.between;
         some = refl;
         no_return = refl;
         ascii = omega arith;
       })
       (subst (λ (x : Move). entries.Enters l 38 false x (Ok what.Nothing) (in_reference l 1 run.Ampersand []))
-      (sym (ap (λ (x : TokenState). entries.judged l.setting l.place.two 38 (marks.move_of l.setting.syntax l.setting.inside x 38)) t.between
+      (sym (ap (λ (x : TokenState). entries.judged l.setting l.place.two 38 (marks.scan_move l.setting.syntax l.setting.inside x 38)) t.between
       ∙ ap (λ x. entries.judged l.setting l.place.two 38 (marks.of_first x)) (cond-true _ _ _ t.reads))) (refl, refl))
 
 -- within it each of its bytes is such a character
@@ -89,13 +89,13 @@ within_alone l n p kept b page some no_return ascii = record { held = refl; star
 
 -- one more character of it
 reads_kept : (l : Reading) (n : ℕ) (p q : RunPhase) (kept : Chars) (b : ℕ) → l.place.at + n < l.setting.limits.page → RunIs p kept → run_move p b ≡ run_moves.Goes q
-    → entries.Reads (in_reference l n p kept) b (Ok what.Nothing) (in_reference l (n + 1) q (kept ++ b ∷ []))
+    → entries.ReadsByte (in_reference l n p kept) b (Ok what.Nothing) (in_reference l (n + 1) q (kept ++ b ∷ []))
 reads_kept l n p q kept b room r e =
     let v : Reading = in_reference l n p kept in
     let new : Reading = in_reference l (n + 1) q (kept ++ b ∷ []) in
     reads_alone v new b (within_alone l n p kept b room (is_none 0 p q b (no_move p).0 e) (is_none 13 p q b (no_move p).1 e) (last_ascii kept b (run_ascii (goes_on b q r e))))
     (subst (λ (x : Move). entries.Enters v b false x (Ok what.Nothing) new)
-    (sym (ap (λ x. entries.judged l.setting l.place.two b (marks.in_run l.setting.inside x)) e))
+    (sym (ap (λ x. entries.judged l.setting l.place.two b (marks.after_run l.setting.inside x)) e))
     (refl, ap (λ (x : Position). entries.with_parts l l.setting x (record { mark = mark.Run q; run = kept ++ b ∷ []; tag = no_tag l.pending.tag.syntax }) l.text) (sym (within_on n l.place))))
 
 -- the semicolon behind it
@@ -104,14 +104,14 @@ behind l n kept text =
     entries.with_parts l (entries.undropped l.setting) (ended false false (within n l.place)) (record { mark = mark.Nothing; run = kept; tag = no_tag l.pending.tag.syntax }) text
 
 reads_semicolon : (l : Reading) (n : ℕ) (p : RunPhase) (kept : Chars) (c : ℕ) (text : Buffered) → l.place.at + n < l.setting.limits.page → l.setting.drops ≡ false → run_move p 59 ≡ run_moves.Closes
-    → meaning l.setting.syntax (encode_utf8_all kept) ≡ Some c → entries.TextGains l.text text c → entries.Reads (in_reference l n p kept) 59 (Ok what.Nothing) (behind l n kept text)
+    → meaning l.setting.syntax (encode_utf8_all kept) ≡ Some c → entries.TextGains l.text text c → entries.ReadsByte (in_reference l n p kept) 59 (Ok what.Nothing) (behind l n kept text)
 reads_semicolon l n p kept c text room drops closes means gains =
     let v : Reading = in_reference l n p kept in
     let new : Reading = behind l n kept text in
     reads_alone v new 59 (within_alone l n p kept 59 room refl refl (omega arith))
     (subst (λ (x : Move). entries.Enters v 59 false x (Ok what.Nothing) new)
-    (sym (ap (λ x. entries.judged l.setting l.place.two 59 (marks.in_run l.setting.inside x)) closes))
-    (subst (λ (x : Option ℕ). entries.Closes v false x (Ok what.Nothing) new) (sym means) (ap (λ x. x && (c == 10)) drops, record { text = gains; is = refl })))
+    (sym (ap (λ x. entries.judged l.setting l.place.two 59 (marks.after_run l.setting.inside x)) closes))
+    (subst (λ (x : Option ℕ). entries.ClosesReference v false x (Ok what.Nothing) new) (sym means) (ap (λ x. x && (c == 10)) drops, record { text = gains; is = refl })))
 
 module _ (old : Reading) (s : reader.Scanning) where
   moved : (l : Reading) (bytes more : List ℕ) (n m : ℕ) (p q : RunPhase) (kept run_now : Chars) → bytes ≡ more → n ≡ m → p ≡ q → kept ≡ run_now → ReadsOn old s bytes (in_reference l n p kept) → ReadsOn old s more (in_reference l m q run_now)
@@ -139,7 +139,7 @@ module _ (old : Reading) (s : reader.Scanning) where
   body_on l (b ∷ more) last n p kept bytes i g k r = body_first l b more last (body_on l more last) n p kept bytes i k r (run_move p b) refl g
 
   -- What is kept of the reference behind it, and where it began, doesn't matter.
-  as_said : (l : Reading) (bytes : List ℕ) (n m : ℕ) (kept : Chars) (text : Buffered) → l.pending.mark ≡ mark.Nothing → n + 1 ≡ m → ReadsOn old s bytes (behind l n kept text) → ReadsOn old s bytes (entries.with_parts l (entries.undropped l.setting) (said m l.place) l.pending text)
+  as_said : (l : Reading) (bytes : List ℕ) (n m : ℕ) (kept : Chars) (text : Buffered) → l.pending.mark ≡ mark.Nothing → n + 1 ≡ m → ReadsOn old s bytes (behind l n kept text) → ReadsOn old s bytes (entries.with_parts l (entries.undropped l.setting) (text_passed m l.place) l.pending text)
   as_said l bytes n m kept text b e r =
       let at : l.place.at + m ≡ (l.place.at + n) + 1 = omega (arith, e) in
       let h = r.reads_as in
@@ -154,7 +154,7 @@ module _ (old : Reading) (s : reader.Scanning) where
           after_return = h.after_return;
           two = sym (and-false l.place.last) ∙ h.two;
           last = h.last;
-          token = ap (λ (x : TokenState). entries.token_from x (said m l.place)) b ∙ (at ∙ h.token);
+          token = ap (λ (x : TokenState). entries.token_from x (text_passed m l.place)) b ∙ (at ∙ h.token);
           syntax = h.syntax;
           pends = subst (λ (x : TokenState). PendsAs l.setting.syntax l.setting.inside x l.pending.run l.pending.tag (values r.scanned.next.run)) (sym b) h.pends;
         };

@@ -70,7 +70,7 @@ module _ (s : Syntax) (i : Content) (p : Pending) (text : Chars) (c : ℕ) (q : 
   first_is : first_char p.mark ≡ ampersand
   first_is = ap first_char m
 
-  pub in_run_means : (r : RunMove) → run_move q c ≡ r → Means s i p text c (marks.in_run i r)
+  pub in_run_means : (r : RunMove) → run_move q c ≡ r → Means s i p text c (marks.after_run i r)
   in_run_means (run_moves.Goes n) e =
       record {
         first = 38;

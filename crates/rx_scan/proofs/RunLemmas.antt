@@ -1,5 +1,5 @@
 -- The bytes of a piece one after another.
-use Rattle.rx_scan.proofs.Common.{◌≡◌, ◌∙◌, ◌⊎◌, inl, inr, ℕ, ◌+◌, ◌<◌, ◌≤◌, true, false, List, [], ◌∷◌, ◌++◌, length, take, drop, refl, ap, sym, subst, Option, Some, None, Result, Ok, Err, append_assoc, arith, get_or, take_more, take-append-drop, length-append, slice_get-get_or, Chars, Syntax, Item, text_of, Fault, Limits, Stop, scan_fault, Reading, spot_of, ReadsAs, joined, texts_of, keeps_first, after_some, setting_after, is_nothing, is_skipped, is_token, HasMark, MarkAlone, a_mark, mark_bytes, Took, Faults, Tells}
+use Rattle.rx_scan.proofs.Common.{◌≡◌, ◌∙◌, ◌⊎◌, inl, inr, ℕ, ◌+◌, ◌<◌, ◌≤◌, true, false, List, [], ◌∷◌, ◌++◌, length, take, drop, refl, ap, sym, subst, Option, Some, None, Result, Ok, Err, append_assoc, arith, get_or, take_more, take-append-drop, length-append, slice_get-get_or, Chars, Syntax, Item, text_of, Fault, Limits, Stop, scan_fault, Reading, reading_spot, ReadsAs, joined, texts_of, keeps_first, after_some, setting_after, is_nothing, skips_token, is_token, HasMark, MarkAlone, a_mark, mark_bytes, Took, Faults, TellsTokens}
 use Rattle.rx_pages.specs.PageReader as reader
 use Rattle.rx_grammar.specs.declared.stops.Stop.TheVariants as stop
 use Rattle.rx_scan.specs.declared.answers.TokenKind.{TokenKind}
@@ -20,7 +20,7 @@ pub record IsApart (v : Reading) : Type 0 where
 -- these bytes told text alone
 pub record ReadsOn (old : Reading) (s : reader.Scanning) (bytes : List ℕ) (now : Reading) : Type 0 where
   pub scanned : reader.Scanned
-  pub read : reader.scan_from old.setting.syntax old.setting.limits (spot_of old) s bytes ≡ Ok scanned
+  pub read : reader.scan_from old.setting.syntax old.setting.limits (reading_spot old) s bytes ≡ Ok scanned
   pub reads_as : ReadsAs now scanned.next
   pub texts : texts_of scanned.items ≡ Some now.text.text
   pub keeps : keeps_first old.setting.drops scanned.items ≡ true
@@ -67,22 +67,22 @@ module _ (old l : Reading) (s : reader.Scanning) (bytes : List ℕ) (r : ReadsOn
   lim = old.setting.limits
 
   abbrev spot : reader.Spot
-  spot = spot_of old
+  spot = reading_spot old
 
   -- it reads on in the same way
-  same_byte : (byte : ℕ) → reader.read_byte l.setting.syntax l.setting.limits (spot_of l) byte r.scanned.next ≡ reader.read_byte sy lim spot byte r.scanned.next
+  same_byte : (byte : ℕ) → reader.read_byte l.setting.syntax l.setting.limits (reading_spot l) byte r.scanned.next ≡ reader.read_byte sy lim spot byte r.scanned.next
   same_byte byte = ap (λ (x : Setting). reader.read_byte x.syntax x.limits (record { inside = x.inside; leads = x.leads }) byte r.scanned.next) r.setting ∙ by r.scanned.items
     where
       by : (items : List Item) → let x = after_some old.setting items in reader.read_byte x.syntax x.limits (record { inside = x.inside; leads = x.leads }) byte r.scanned.next ≡ reader.read_byte sy lim spot byte r.scanned.next
       by [] = refl
       by (x ∷ items) = refl
 
-  byte_on : (byte : ℕ) → reader.scan_from sy lim spot s (bytes ++ byte ∷ []) ≡ reader.with_items r.scanned.next r.scanned.items (reader.read_byte l.setting.syntax l.setting.limits (spot_of l) byte r.scanned.next)
+  byte_on : (byte : ℕ) → reader.scan_from sy lim spot s (bytes ++ byte ∷ []) ≡ reader.with_items r.scanned.next r.scanned.items (reader.read_byte l.setting.syntax l.setting.limits (reading_spot l) byte r.scanned.next)
   byte_on byte =
       on_append sy lim spot (Ok (record { next = s; items = [] })) bytes (byte ∷ []) ∙ (ap (λ x. reader.scan_byte_on sy lim spot x byte) r.read ∙ ap (reader.with_items r.scanned.next r.scanned.items) (sym (same_byte byte)))
 
   -- the mark stood there before, or the byte that makes it whole answers that it is skipped
-  pub marked_byte : (byte : ℕ) (answer : TokenKind) (new : Reading) → entries.Reads l byte (Ok answer) new → (rest : List ℕ) → HasMark s (bytes ++ byte ∷ []) rest → Earlier s bytes ⊎ (answer ≡ what.Skipped)
+  pub marked_byte : (byte : ℕ) (answer : TokenKind) (new : Reading) → entries.ReadsByte l byte (Ok answer) new → (rest : List ℕ) → HasMark s (bytes ++ byte ∷ []) rest → Earlier s bytes ⊎ (answer ≡ what.Skipped)
   marked_byte byte answer new k rest m = elim (mark_snoc s bytes byte rest m) [
     | inl e ↦ inl e
     | inr w ↦ let q = all_held sy lim spot bytes (record { next = s; items = [] }) r.scanned r.read (inr w.before) in
@@ -90,7 +90,7 @@ module _ (old l : Reading) (s : reader.Scanning) (bytes : List ℕ) (r : ReadsOn
   ]
 
   -- and no token is complete with it
-  pub marked_none : (byte : ℕ) (x : reader.Scanned) → reader.read_byte l.setting.syntax l.setting.limits (spot_of l) byte r.scanned.next ≡ Ok x → (rest : List ℕ) → HasMark s (bytes ++ byte ∷ []) rest → x.items ≡ []
+  pub marked_none : (byte : ℕ) (x : reader.Scanned) → reader.read_byte l.setting.syntax l.setting.limits (reading_spot l) byte r.scanned.next ≡ Ok x → (rest : List ℕ) → HasMark s (bytes ++ byte ∷ []) rest → x.items ≡ []
   marked_none byte x e rest m = elim (mark_snoc s bytes byte rest m) [
     | inl q ↦ absurd (r.unmarked q.rest q.mark)
     | inr w ↦ let q = all_held sy lim spot bytes (record { next = s; items = [] }) r.scanned r.read (inr w.before) in
@@ -105,7 +105,7 @@ module _ (old l : Reading) (s : reader.Scanning) (bytes : List ℕ) (r : ReadsOn
       record { first = sym h.same ∙ f; part = omega (arith, ap length e, length-append s.held (bytes ++ byte ∷ []), length-append bytes (byte ∷ [])); are = e }
 
   -- one more byte of text
-  pub reads_more : (byte : ℕ) (new : Reading) → entries.Reads l byte (Ok what.Nothing) new → ReadsOn old s (bytes ++ byte ∷ []) new
+  pub reads_more : (byte : ℕ) (new : Reading) → entries.ReadsByte l byte (Ok what.Nothing) new → ReadsOn old s (bytes ++ byte ∷ []) new
   reads_more byte new k =
       let g = reads_other l r.scanned.next r.reads_as byte (Ok what.Nothing) new (λ e. cc) k in
       record {
@@ -124,7 +124,7 @@ module _ (old l : Reading) (s : reader.Scanning) (bytes : List ℕ) (r : ReadsOn
       split_nil [] b e = (refl, e)
       split_nil (x ∷ a) b e = absurd (cc)
 
-      by_text : (t : Chars) → l.text.text ≡ t → (new.text.text ≡ [] → ⊥) → GivesOk (reader.read_byte l.setting.syntax l.setting.limits (spot_of l) byte r.scanned.next) l what.Nothing new → new.place.started ≡ true
+      by_text : (t : Chars) → l.text.text ≡ t → (new.text.text ≡ [] → ⊥) → GivesOk (reader.read_byte l.setting.syntax l.setting.limits (reading_spot l) byte r.scanned.next) l what.Nothing new → new.place.started ≡ true
       by_text [] e n g = g.told.started (λ z. n (g.told.text ∙ (ap (λ x. x ++ g.told.more) e ∙ z)))
       by_text (x ∷ t) e n g = g.told.still (r.started (λ z. let q = sym e ∙ z in cc))
 
@@ -155,30 +155,30 @@ module _ (old l new : Reading) (s : reader.Scanning) (piece : List ℕ) (i : ℕ
   taken = take_more piece i 0 k
 
   -- the mark stands alone
-  alone : (answer : TokenKind) (x : reader.Scanned) → entries.Reads l byte (Ok answer) new → reader.read_byte l.setting.syntax l.setting.limits (spot_of l) byte r.scanned.next ≡ Ok x → MarkAlone (is_skipped answer) s (take (i + 1) piece) x.items
+  alone : (answer : TokenKind) (x : reader.Scanned) → entries.ReadsByte l byte (Ok answer) new → reader.read_byte l.setting.syntax l.setting.limits (reading_spot l) byte r.scanned.next ≡ Ok x → MarkAlone (skips_token answer) s (take (i + 1) piece) x.items
   alone answer x e q rest m =
       let h : HasMark s (take i piece ++ byte ∷ []) rest = subst (λ (z : List ℕ). HasMark s z rest) taken m in (
-        elim (marked_byte old l s (take i piece) r byte answer new e rest h) [ inl z ↦ absurd (r.unmarked z.rest z.mark) | inr z ↦ ap is_skipped z ],
+        elim (marked_byte old l s (take i piece) r byte answer new e rest h) [ inl z ↦ absurd (r.unmarked z.rest z.mark) | inr z ↦ ap skips_token z ],
         marked_none old l s (take i piece) r byte x q rest h,
       )
 
   -- the piece read so far, with what the byte leads to
-  read_on : l.text.text ≡ [] → (x : reader.Scanned) → reader.read_byte l.setting.syntax l.setting.limits (spot_of l) byte r.scanned.next ≡ Ok x → reader.scan_from old.setting.syntax old.setting.limits (spot_of old) s (take (i + 1) piece) ≡ Ok x
+  read_on : l.text.text ≡ [] → (x : reader.Scanned) → reader.read_byte l.setting.syntax l.setting.limits (reading_spot l) byte r.scanned.next ≡ Ok x → reader.scan_from old.setting.syntax old.setting.limits (reading_spot old) s (take (i + 1) piece) ≡ Ok x
   read_on t x e =
-      ap (reader.scan_from old.setting.syntax old.setting.limits (spot_of old) s) taken
+      ap (reader.scan_from old.setting.syntax old.setting.limits (reading_spot old) s) taken
       ∙ (byte_on old l s (take i piece) r byte ∙ (ap (reader.with_items r.scanned.next r.scanned.items) e ∙ ap (λ y. Ok (record { next = x.next; items = y ++ x.items })) (no_items old l s (take i piece) r t).0))
 
   not_nothing : (answer : TokenKind) → is_token answer ≡ true → is_nothing answer ≡ true → ⊥
   not_nothing what.Nothing w z = cc
   not_nothing _ w z = cc
 
-  told : (answer : TokenKind) → is_token answer ≡ true → (items : List Item) → IsTold l answer items new → Tells l.setting.drops answer s (take (i + 1) piece) items new
+  told : (answer : TokenKind) → is_token answer ≡ true → (items : List Item) → IsTold l answer items new → TellsTokens l.setting.drops answer s (take (i + 1) piece) items new
   told what.Nothing w items h = absurd (cc)
   told what.Skipped w items h = h.0 s (take (i + 1) piece)
   told what.Text w items h = absurd (cc)
   told _ w items h = h.0
 
-  took_as : (answer : TokenKind) (x : reader.Scanned) → entries.Reads l byte (Ok answer) new → l.text.text ≡ [] → reader.read_byte l.setting.syntax l.setting.limits (spot_of l) byte r.scanned.next ≡ Ok x → ReadsAs new x.next → Tells old.setting.drops answer s (take (i + 1) piece) x.items new
+  took_as : (answer : TokenKind) (x : reader.Scanned) → entries.ReadsByte l byte (Ok answer) new → l.text.text ≡ [] → reader.read_byte l.setting.syntax l.setting.limits (reading_spot l) byte r.scanned.next ≡ Ok x → ReadsAs new x.next → TellsTokens old.setting.drops answer s (take (i + 1) piece) x.items new
       → new.setting ≡ setting_after answer new old.setting x.items → (is_nothing answer ≡ true → ⊥) → Took old s piece (i + 1) answer new
   took_as answer x e t q h w b n =
       record {
@@ -193,34 +193,34 @@ module _ (old l new : Reading) (s : reader.Scanning) (piece : List ℕ) (i : ℕ
         some = λ z. omega arith;
       }
 
-  took_entry : (answer : TokenKind) → entries.Reads l byte (Ok answer) new → l.text.text ≡ [] → is_token answer ≡ true → GivesOk (reader.read_byte l.setting.syntax l.setting.limits (spot_of l) byte r.scanned.next) l answer new → Took old s piece (i + 1) answer new
+  took_entry : (answer : TokenKind) → entries.ReadsByte l byte (Ok answer) new → l.text.text ≡ [] → is_token answer ≡ true → GivesOk (reader.read_byte l.setting.syntax l.setting.limits (reading_spot l) byte r.scanned.next) l answer new → Took old s piece (i + 1) answer new
   took_entry answer e t w g =
       let none = no_items old l s (take i piece) r t in
-      took_as answer g.scanned e t g.is g.reads_as (subst (λ (x : Setting). Tells x.drops answer s (take (i + 1) piece) g.scanned.items new) none.1 (told answer w g.scanned.items g.told))
+      took_as answer g.scanned e t g.is g.reads_as (subst (λ (x : Setting). TellsTokens x.drops answer s (take (i + 1) piece) g.scanned.items new) none.1 (told answer w g.scanned.items g.told))
       (g.setting ∙ ap (λ x. setting_after answer new x g.scanned.items) none.1) (not_nothing answer w)
 
   -- the mark is skipped
-  took_mark : entries.Reads l byte (Ok what.Skipped) new → l.text.text ≡ [] → PassesMark (reader.read_byte l.setting.syntax l.setting.limits (spot_of l) byte r.scanned.next) r.scanned.next l byte (Ok what.Skipped) new → Took old s piece (i + 1) what.Skipped new
+  took_mark : entries.ReadsByte l byte (Ok what.Skipped) new → l.text.text ≡ [] → PassesMark (reader.read_byte l.setting.syntax l.setting.limits (reading_spot l) byte r.scanned.next) r.scanned.next l byte (Ok what.Skipped) new → Took old s piece (i + 1) what.Skipped new
   took_mark e t m =
-      took_as what.Skipped (record { next = reader.passed r.scanned.next; items = [] }) e t m.is m.reads_as
+      took_as what.Skipped (record { next = reader.passed_over r.scanned.next; items = [] }) e t m.is m.reads_as
       (a_mark (subst (λ (z : List ℕ). HasMark s z []) (sym taken) (whole_mark old l s (take i piece) r byte m.first m.are)) refl) (m.setting ∙ (no_items old l s (take i piece) r t).1) (λ z. cc)
 
   -- a token other than text is whole with the byte
-  pub took_token : (answer : TokenKind) → entries.Reads l byte (Ok answer) new → l.text.text ≡ [] → is_token answer ≡ true → Took old s piece (i + 1) answer new
+  pub took_token : (answer : TokenKind) → entries.ReadsByte l byte (Ok answer) new → l.text.text ≡ [] → is_token answer ≡ true → Took old s piece (i + 1) answer new
   took_token answer e t w = elim (reads l r.scanned.next r.reads_as byte (Ok answer) new e) [
     | inl g ↦ took_entry answer e t w g
     | inr m ↦ let w : ◌≡◌ {A = Result TokenKind Stop} (Ok answer) (Ok what.Skipped) = m.answer in
         let q : answer ≡ what.Skipped = cc in
         subst (λ (a : TokenKind). Took old s piece (i + 1) a new) (sym q)
-        (took_mark (subst (λ (a : TokenKind). entries.Reads l byte (Ok a) new) q e) t (subst (λ (a : TokenKind). PassesMark (reader.read_byte l.setting.syntax l.setting.limits (spot_of l) byte r.scanned.next) r.scanned.next l byte (Ok a) new) q m))
+        (took_mark (subst (λ (a : TokenKind). entries.ReadsByte l byte (Ok a) new) q e) t (subst (λ (a : TokenKind). PassesMark (reader.read_byte l.setting.syntax l.setting.limits (reading_spot l) byte r.scanned.next) r.scanned.next l byte (Ok a) new) q m))
   ]
 
   -- the byte decides a fault
-  pub faults : (fault : Fault) → entries.Reads l byte (Err (stop.Fault fault)) new → l.text.text ≡ [] → Faults old s piece fault
+  pub faults : (fault : Fault) → entries.ReadsByte l byte (Err (stop.Fault fault)) new → l.text.text ≡ [] → Faults old s piece fault
   faults fault e t =
       let none = no_items old l s (take i piece) r t in
       let g = reads_other l r.scanned.next r.reads_as byte (Err (stop.Fault fault)) new (λ q. cc) e in
-      let here : reader.read_byte old.setting.syntax old.setting.limits (spot_of old) byte r.scanned.next ≡ Err g.kind = sym (same_byte old l s (take i piece) r byte) ∙ g.is in
+      let here : reader.read_byte old.setting.syntax old.setting.limits (reading_spot old) byte r.scanned.next ≡ Err g.kind = sym (same_byte old l s (take i piece) r byte) ∙ g.is in
       let kind : g.kind ≡ fault.kind = sym (ap (λ (f : Fault). f.kind) g.fault_is) in
       record {
         n = i;
@@ -231,8 +231,8 @@ module _ (old l new : Reading) (s : reader.Scanning) (piece : List ℕ) (i : ℕ
         here = slice_get-get_or piece i 0 k;
         decides = here ∙ ap Err kind;
         is = g.fault_is ∙ ap (reader.fault_in r.scanned.next) kind;
-        first = ap (reader.scan_from old.setting.syntax old.setting.limits (spot_of old) s) (sym (take-append-drop (i + 1) piece) ∙ ap (λ x. x ++ drop (i + 1) piece) taken)
-            ∙ (on_append old.setting.syntax old.setting.limits (spot_of old) (Ok (record { next = s; items = [] })) (take i piece ++ byte ∷ []) (drop (i + 1) piece)
-            ∙ (ap (λ x. reader.scan_on old.setting.syntax old.setting.limits (spot_of old) x (drop (i + 1) piece)) (byte_on old l s (take i piece) r byte ∙ (ap (reader.with_items r.scanned.next r.scanned.items) g.is ∙ ap Err (sym g.fault_is)))
-            ∙ scan_fault old.setting.syntax old.setting.limits (spot_of old) fault (drop (i + 1) piece)));
+        first = ap (reader.scan_from old.setting.syntax old.setting.limits (reading_spot old) s) (sym (take-append-drop (i + 1) piece) ∙ ap (λ x. x ++ drop (i + 1) piece) taken)
+            ∙ (on_append old.setting.syntax old.setting.limits (reading_spot old) (Ok (record { next = s; items = [] })) (take i piece ++ byte ∷ []) (drop (i + 1) piece)
+            ∙ (ap (λ x. reader.scan_on old.setting.syntax old.setting.limits (reading_spot old) x (drop (i + 1) piece)) (byte_on old l s (take i piece) r byte ∙ (ap (reader.with_items r.scanned.next r.scanned.items) g.is ∙ ap Err (sym g.fault_is)))
+            ∙ scan_fault old.setting.syntax old.setting.limits (reading_spot old) fault (drop (i + 1) piece)));
       }

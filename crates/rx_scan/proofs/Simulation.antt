@@ -4,7 +4,7 @@ use Rattle.rx_grammar.specs.declared.contents.Content.TheVariants as content
 use Rattle.rx_scan.specs.declared.marks.TokenState.{TokenState}
 use Rattle.rx_scan.specs.declared.marks.TokenState.TheVariants as mark
 use Rattle.rx_scan.specs.Marks as marks
-use Rattle.rx_scan.specs.KnownTags.{is_tag, is_tag_with, ends_word}
+use Rattle.rx_scan.specs.KnownTags.{lies_in_tag, is_tag_with, ends_word}
 use Rattle.rx_scan.proofs.Behinds.{grown, in_comment_means, in_strict_means, in_bogus_means, in_instruction_means, in_section_means, in_doctype_means}
 use Rattle.rx_scan.proofs.Snoc.{head_of, word_at}
 use Rattle.rx_scan.proofs.Openings.{in_word_means, at_opened_means, no_tag}
@@ -12,7 +12,7 @@ use Rattle.rx_scan.proofs.Markup.{at_nothing_means, at_less_than_means, in_tag_m
 use Rattle.rx_scan.proofs.References.{in_run_means}
 
 module _ (s : Syntax) (i : Content) (p : Pending) (text : Chars) (c : ℕ) where
-  at_mark : (m : TokenState) → p.mark ≡ m → PendsAs s i m p.run p.tag text → Means s i p text c (marks.move_of s i m c)
+  at_mark : (m : TokenState) → p.mark ≡ m → PendsAs s i m p.run p.tag text → Means s i p text c (marks.scan_move s i m c)
   at_mark mark.Nothing e h = at_nothing_means s i p text c h
   at_mark mark.LessThan e h = at_less_than_means s i p text c h e
   at_mark (mark.RawEnd n) e h = in_end_means s i p text c n h e
@@ -27,7 +27,7 @@ module _ (s : Syntax) (i : Content) (p : Pending) (text : Chars) (c : ℕ) where
   at_mark (mark.Doctype q) e h = in_doctype_means s i p text c q h
   at_mark (mark.Section q) e h = in_section_means s i p text c q h
 
-  pub simulates : Pends s i p text → Means s i p text c (marks.move_of s i p.mark c)
+  pub simulates : Pends s i p text → Means s i p text c (marks.scan_move s i p.mark c)
   simulates h = at_mark p.mark refl h
 
 -- a front of the end tag's name, and what isn't longer than the name
@@ -52,7 +52,7 @@ module _ (s : Syntax) (i : Content) (run : Chars) (tag : TagSoFar) (text : Chars
   raw_known : (n : ℕ) (h : InRawEnd s i n run tag text) (x : Chars) → is_known_tag s i (60 ∷ x) ≡ is_known_end h.name x
   raw_known n h x = cond-false _ _ _ (raw_content i h.name h.raw).markup ∙ ap (λ o. is_known_raw o x) h.raw
 
-  pub known : (m : TokenState) → PendsAs s i m run tag text → is_known_tag s i text ≡ is_tag m
+  pub known : (m : TokenState) → PendsAs s i m run tag text → is_known_tag s i text ≡ lies_in_tag m
   known mark.Nothing h = ap (is_known_tag s i) h
   known mark.LessThan h = ap (is_known_tag s i) h.are ∙ none_after s i
   known (mark.RawEnd n) h = ap (is_known_tag s i) h.are ∙ (raw_known n h run ∙ short_end h.name run (let k = raw_length n h in omega arith))

@@ -1,7 +1,7 @@
 -- What is scanned is what the bytes spell, in whatever content.
-use Rattle.rx_pages.proofs.Common.{◌≡◌, ◌≢◌, ◌∙◌, inl, inr, ℕ, ◌+◌, ◌-◌, ◌≤◌, ◌<◌, Bool, true, false, List, [], ◌∷◌, ◌++◌, refl, sym, ap, subst, length, append_assoc, append-nil, eqb-true, Some, None, Result, Ok, Err, arith, nat_le, ◌&&◌, ◌||◌, ◌==◌, not, take, len_utf8, all_scalars, encode, encodes, length-encode, and_parts, and_from, and_right, cond-true, cond-false, leb-true, eqb-false, false_from_ne_true, or_right, leb-false, or-false, ampersand, less_than_sign, right_bracket, greater_than_sign, by_test, split, untrue, Chars, length-append, Syntax, Html, More, Char, Bad, answer_of, BeginsCharacter, IsCharacter, Answers, Entry, byte_order_mark, line_feed, carriage_return, as_line_end, Token, tag, character, doctype, values, next_of, Item, Spelled, no_more, Fits, AllFit, is_literal, is_strict_literal, no_section_end, has_no_nul, IsPending, is_known_tag, Utf8Step, answers_from, form_of, Content, Fault, Kind, TagTooLong, Limits, GoesOn, Verdict, goes_on, whole, ended, refused, verdict, at_first, ReadAs, at_last, at_next, values_append, item_last, item_first, pending_goes, token_of_item, IsKept, is_kept, scan_fault, Stop, if◌then◌else◌, and-false, IsPart}
+use Rattle.rx_pages.proofs.Common.{◌≡◌, ◌≢◌, ◌∙◌, inl, inr, ℕ, ◌+◌, ◌-◌, ◌≤◌, ◌<◌, Bool, true, false, List, [], ◌∷◌, ◌++◌, refl, sym, ap, subst, length, append_assoc, append-nil, eqb-true, Some, None, Result, Ok, Err, arith, nat_le, ◌&&◌, ◌||◌, ◌==◌, not, take, len_utf8, all_scalars, encode, encodes, length-encode, and_parts, and_from, and_right, cond-true, cond-false, leb-true, eqb-false, false_from_ne_true, or_right, leb-false, or-false, ampersand, less_than_sign, right_bracket, greater_than_sign, by_test, split, untrue, Chars, length-append, Syntax, Html, More, Char, Bad, answer_of, BeginsCharacter, IsCharacter, Answers, PlacedCharacter, byte_order_mark, line_feed, carriage_return, as_line_end, Token, tag, character, doctype, values, next_of, Item, Spelled, no_more, Fits, AllFit, is_literal, is_strict_literal, no_section_end, has_no_nul, IsPending, is_known_tag, Utf8Step, answers_from, form_of, Content, Fault, Kind, TagTooLong, Limits, CharactersGoOn, Verdict, goes_on, whole, ended, refused, verdict, first_verdict, ReadAs, at_last, at_next, values_append, item_last, item_first, pending_goes, token_of_item, IsKept, is_kept, scan_fault, Stop, if◌then◌else◌, and-false, IsPart}
 use Rattle.std.specs.Prelude.{◌↔◌}
-use Rattle.rx_scan.proofs.Common.{two_lasts, kept_literal, flags_behind, Spot, Scanning, Scanned, first_of, starts_at, token_at, fault_in, holding, passed, entering, item_of, is_doctype, completed, told_first, with_item, after_token, told, read_entry, read_char, read_answer, read_byte, with_items, scan_on, scan_from, occurs, goes_more, no_nul_more, reads_each, passes, entry_at, ends_return, no_return, no_mark, ended_kept, Steps, is_of_syntax, brackets_behind, entries_at, AllInside, MayCome, AllMayCome, AllBefore, has_character, ends_in_return, Spells, IsBetween, is_over, Enters, FitsWith, IsNoToken, Refuses, page_too_long, not_utf8, nul, tag_too_long, known_too_long, decided, section_end, late_doctype, FirstFault, StepAnswers, StepsSpell, spot_of, one_unknown}
+use Rattle.rx_scan.proofs.Common.{two_lasts, kept_literal, flags_behind, Spot, Scanning, Scanned, first_of, starts_at, token_at, fault_in, holding, passed_over, entering, item_of_run, is_doctype, completed, told_first, with_item, after_token, told, read_entry, read_char, read_answer, read_byte, with_items, scan_on, scan_from, occurs, goes_more, no_nul_more, reads_each, passes, entry_at, ends_return, no_return, no_mark, ended_kept, Steps, is_of_syntax, brackets_behind, spelled_entries, AllInside, MayCome, AllMayCome, AllBefore, has_character, ends_in_return, ScanSpells, TokensAreWhole, is_over, EntersCharacter, FitsWith, IsNoToken, RefusesByte, page_too_long, not_utf8, nul, tag_too_long, known_too_long, decided, section_end, late_doctype, FirstFault, StepAnswers, StepsSpell, reading_spot, one_unknown}
 use Rattle.rx_grammar.specs.declared.contents.Content.TheVariants as content
 use Rattle.rx_grammar.specs.Spelling as spelling
 use Rattle.rx_grammar.specs.PageFaults as faults
@@ -11,7 +11,7 @@ use Rattle.rx_pages.proofs.KnownSpelled.{spelled_known}
 use Rattle.rx_pages.proofs.BytesOn.{encodes_more, scalars_more, some_entered}
 use Rattle.rx_pages.proofs.Snocs.{entered_one, values_next, spelled_snoc, sections_snoc, fit_snoc, entered_snoc}
 use Rattle.rx_scan.specs.Spelled as spelled
-use Rattle.rx_chars.specs.Characters.{placed, entered}
+use Rattle.rx_chars.specs.Characters.{placed, preprocessed}
 use Rattle.rx_scan.specs.declared.answers.Token as shown
 use Rattle.rx_grammar.specs.declared.stops.Stop.TheVariants as stop
 use Rattle.rx_scan.proofs.RunLemmas.{on_append}
@@ -26,10 +26,10 @@ FirstSays (whole token) = (x : ℕ) × (token ≡ character x)
 FirstSays (ended token) = ⊥
 FirstSays _ = Unit {0}
 
-first_says : (i : Content) (c : ℕ) → FirstSays (at_first i c)
+first_says : (i : Content) (c : ℕ) → FirstSays (first_verdict i c)
 first_says i c = split FirstSays (c == less_than_sign || (c == ampersand && spelling.has_references i)) _ _ (λ h. tt) (λ h. split FirstSays (spelling.is_text i c) _ _ (λ k. (c, refl)) (λ k. tt))
 
-pub never_ended : (i : Content) (c : ℕ) (token : Token) → at_first i c ≢ ended token
+pub never_ended : (i : Content) (c : ℕ) (token : Token) → first_verdict i c ≢ ended token
 never_ended i c token h = subst FirstSays h (first_says i c)
 
 pub has_snoc : (cs : List ℕ) (c : ℕ) → has_character (cs ++ c ∷ []) ≡ true
@@ -46,19 +46,19 @@ ends_is before (c ∷ cs) = ends_is (c == carriage_return) cs
 
 -- one character behind others
 entered_more : (after_return : Bool) (at : ℕ) (cs : List ℕ) (c : ℕ)
-    → entered after_return (placed at (cs ++ c ∷ [])) ≡ entered after_return (placed at cs) ++ entered_one (ends_in_return after_return cs && c == line_feed) (at + length (encodes cs)) c
-entered_more after_return at cs c = entered_snoc after_return at cs c ∙ ap (λ b. entered after_return (placed at cs) ++ entered_one (b && c == line_feed) (at + length (encodes cs)) c) (ends_is after_return cs)
+    → preprocessed after_return (placed at (cs ++ c ∷ [])) ≡ preprocessed after_return (placed at cs) ++ entered_one (ends_in_return after_return cs && c == line_feed) (at + length (encodes cs)) c
+entered_more after_return at cs c = entered_snoc after_return at cs c ∙ ap (λ b. preprocessed after_return (placed at cs) ++ entered_one (b && c == line_feed) (at + length (encodes cs)) c) (ends_is after_return cs)
 
 pub entries_snoc : (started after_return : Bool) (at : ℕ) (cs : List ℕ) (c : ℕ)
-    → entries_at started after_return at (cs ++ c ∷ []) ≡ entries_at started after_return at cs ++ entered_one (passes (started || has_character cs) (ends_in_return after_return cs) c) (at + length (encodes cs)) c
+    → spelled_entries started after_return at (cs ++ c ∷ []) ≡ spelled_entries started after_return at cs ++ entered_one (passes (started || has_character cs) (ends_in_return after_return cs) c) (at + length (encodes cs)) c
 entries_snoc true after_return at cs c = entered_more after_return at cs c
 entries_snoc false after_return at [] c =
-    by_test {G = entries_at false after_return at (c ∷ []) ≡ entered_one (passes false after_return c) (at + 0) c} (c == byte_order_mark) (λ t. rw t refl) (λ t. rw t (entered_more after_return at [] c))
+    by_test {G = spelled_entries false after_return at (c ∷ []) ≡ entered_one (passes false after_return c) (at + 0) c} (c == byte_order_mark) (λ t. rw t refl) (λ t. rw t (entered_more after_return at [] c))
 entries_snoc false after_return at (d ∷ cs) c =
     let n = length-append (encode d) (encodes cs) in
     let l = length-encode d in
     let same : at + len_utf8 d + length (encodes cs) ≡ at + length (encodes (d ∷ cs)) = omega arith in
-    by_test {G = entries_at false after_return at ((d ∷ cs) ++ c ∷ []) ≡ entries_at false after_return at (d ∷ cs) ++ entered_one (ends_in_return (d == carriage_return) cs && c == line_feed) (at + length (encodes (d ∷ cs))) c} (d == byte_order_mark)
+    by_test {G = spelled_entries false after_return at ((d ∷ cs) ++ c ∷ []) ≡ spelled_entries false after_return at (d ∷ cs) ++ entered_one (ends_in_return (d == carriage_return) cs && c == line_feed) (at + length (encodes (d ∷ cs))) c} (d == byte_order_mark)
     (λ t. rw (t, no_mark d t, ← same) (entered_more false (at + len_utf8 d) cs c)) (λ t. rw t (entered_more after_return at (d ∷ cs) c))
 
 pub inside_snoc : (inside : Content) (items : List Item) (item : Item) → AllInside inside (items ++ item ∷ []) ↔ (AllInside inside items × (item.content ≡ inside))
@@ -106,15 +106,15 @@ doctype_is doctype d = refl
 doctype_is _ d = absurd (cc)
 
 -- the first byte of a run that is known to be a tag, whatever stands for the first one of none
-pub first_known : (syntax : Syntax) (inside : Content) (run : List Entry) (a b : ℕ) → is_known_tag syntax inside (values run) ≡ true → first_of run a ≡ first_of run b
+pub first_known : (syntax : Syntax) (inside : Content) (run : List PlacedCharacter) (a b : ℕ) → is_known_tag syntax inside (values run) ≡ true → first_of run a ≡ first_of run b
 first_known syntax inside [] a b k = absurd (cc)
 first_known syntax inside (e ∷ run) a b k = refl
 
-pub first_snoc : (run : List Entry) (e : Entry) (at : ℕ) → first_of (run ++ e ∷ []) at ≡ first_of run e.first
+pub first_snoc : (run : List PlacedCharacter) (e : PlacedCharacter) (at : ℕ) → first_of (run ++ e ∷ []) at ≡ first_of run e.first
 first_snoc [] e at = refl
 first_snoc (d ∷ run) e at = refl
 
-pub none_entered : (started after_return : Bool) (at : ℕ) → entries_at started after_return at [] ≡ []
+pub none_entered : (started after_return : Bool) (at : ℕ) → spelled_entries started after_return at [] ≡ []
 none_entered true after_return at = refl
 none_entered false after_return at = refl
 
@@ -141,24 +141,24 @@ module _ (syntax : Syntax) (limits : Limits) (spot : Spot) (o : occurs syntax sp
   inside = spot.inside
 
   -- what the characters enter, and the brackets behind some tokens
-  abbrev pub entries_of : List ℕ → List Entry
-  entries_of cs = entries_at s.started s.after_return s.at cs
+  abbrev pub entries_of : List ℕ → List PlacedCharacter
+  entries_of cs = spelled_entries s.started s.after_return s.at cs
 
   abbrev pub brackets : List Item → Bool × Bool
   brackets items = brackets_behind items s.two s.last
 
   -- the state behind these bytes, which are these characters and a part of one, where this run is left
-  abbrev pub state : List ℕ → List ℕ → List ℕ → List Entry → Bool × Bool → Scanning
+  abbrev pub state : List ℕ → List ℕ → List ℕ → List PlacedCharacter → Bool × Bool → Scanning
   state bytes cs part run flags =
       record { at = s.at + length bytes; held = part; started = s.started || has_character cs; after_return = ends_in_return s.after_return cs; run = run; two = flags.0; last = flags.1 }
 
   abbrev pub IsTold : List ℕ → Scanning → List Item → Type 0
-  IsTold bytes next items = Spells syntax limits spot s bytes (record { next = next; items = items })
+  IsTold bytes next items = ScanSpells syntax limits spot s bytes (record { next = next; items = items })
 
   -- what a byte does: with it the bytes spell this, or it is refused
   abbrev Does : List ℕ → Scanning → List Item → ℕ → Result Scanned Kind → Type 0
   Does bytes next items byte (Ok r) = IsTold (bytes ++ byte ∷ []) r.next (items ++ r.items)
-  Does bytes next items byte (Err kind) = Refuses syntax limits spot next byte kind
+  Does bytes next items byte (Err kind) = RefusesByte syntax limits spot next byte kind
 
   -- what is to be known of some tokens, whatever spells them
   pub record Fine (items : List Item) : Type 0 where
@@ -177,7 +177,7 @@ module _ (syntax : Syntax) (limits : Limits) (spot : Spot) (o : occurs syntax sp
       }
 
   -- What bytes spell, by its parts.
-  pub record Has (bytes cs part : List ℕ) (front run : List Entry) (items : List Item) : Type 0 where
+  pub record Has (bytes cs part : List ℕ) (front run : List PlacedCharacter) (items : List Item) : Type 0 where
     pub are : bytes ≡ encodes cs ++ part
     pub scalars : all_scalars cs ≡ true
     pub within : AllBefore limits.page s.at bytes
@@ -186,14 +186,14 @@ module _ (syntax : Syntax) (limits : Limits) (spot : Spot) (o : occurs syntax sp
     pub no_nul : has_no_nul (entries_of cs) ≡ true
     pub spelled : Spelled syntax front (next_of (values run) None) items
     pub fine : Fine items
-    pub goes : GoesOn syntax inside [] (values run)
+    pub goes : CharactersGoOn syntax inside [] (values run)
     pub short : (from : ℕ) → is_known_tag syntax inside (values run) ≡ true → s.at + length bytes ≤ first_of run from + limits.tag
 
-  pending_of : (run : List Entry) → GoesOn syntax inside [] (values run) → IsPending syntax inside (values run)
+  pending_of : (run : List PlacedCharacter) → CharactersGoOn syntax inside [] (values run) → IsPending syntax inside (values run)
   pending_of [] g = inl refl
   pending_of (e ∷ run) g = inr (unfinished syntax inside o (pends syntax inside o (values (e ∷ run)) g) (λ k. cc))
 
-  pub told_of : (bytes cs part : List ℕ) (front run : List Entry) (items : List Item) → Has bytes cs part front run items → IsTold bytes (state bytes cs part run (brackets items)) items
+  pub told_of : (bytes cs part : List ℕ) (front run : List PlacedCharacter) (items : List Item) → Has bytes cs part front run items → IsTold bytes (state bytes cs part run (brackets items)) items
   told_of bytes cs part front run items h =
       record {
         characters = cs;
@@ -220,7 +220,7 @@ module _ (syntax : Syntax) (limits : Limits) (spot : Spot) (o : occurs syntax sp
         last_is = refl;
       }
 
-  pub has_of : (bytes : List ℕ) (r : Scanned) (t : Spells syntax limits spot s bytes r) → Has bytes t.characters t.part t.front r.next.run r.items
+  pub has_of : (bytes : List ℕ) (r : Scanned) (t : ScanSpells syntax limits spot s bytes r) → Has bytes t.characters t.part t.front r.next.run r.items
   has_of bytes r t =
       record {
         are = t.are;
@@ -235,7 +235,7 @@ module _ (syntax : Syntax) (limits : Limits) (spot : Spot) (o : occurs syntax sp
         short = λ from k. (let a = t.short k in let f = first_known syntax inside r.next.run (starts_at r.next) from k in let e = t.at_is in omega arith);
       }
 
-  pub state_is : (bytes : List ℕ) (r : Scanned) (t : Spells syntax limits spot s bytes r) → r.next ≡ state bytes t.characters t.part r.next.run (brackets r.items)
+  pub state_is : (bytes : List ℕ) (r : Scanned) (t : ScanSpells syntax limits spot s bytes r) → r.next ≡ state bytes t.characters t.part r.next.run (brackets r.items)
   state_is bytes r t = λ i. record { at = t.at_is i; held = t.part_is i; started = t.started_is i; after_return = t.return_is i; run = r.next.run; two = t.two_is i; last = t.last_is i }
 
   -- one more byte
@@ -251,10 +251,10 @@ module _ (syntax : Syntax) (limits : Limits) (spot : Spot) (o : occurs syntax sp
       abbrev pub pass : Bool
       pass = passes (s.started || has_character cs) (ends_in_return s.after_return cs) c
 
-      abbrev pub new_entry : Entry
+      abbrev pub new_entry : PlacedCharacter
       new_entry = record { value = as_line_end c; first = s.at + length bytes - length part; last = s.at + length bytes }
 
-      abbrev pub new_entries : List Entry
+      abbrev pub new_entries : List PlacedCharacter
       new_entries = if pass then [] else new_entry ∷ []
 
       pub entries_are : entries_of (cs ++ c ∷ []) ≡ entries_of cs ++ new_entries
@@ -269,7 +269,7 @@ module _ (syntax : Syntax) (limits : Limits) (spot : Spot) (o : occurs syntax sp
               λ i. record { value = as_line_end c; first = first i; last = last i }
 
       -- the state behind it
-      pub next_is : (after_return : Bool) (old run : List Entry) (two last : Bool) (flags kept : Bool × Bool) → after_return ≡ (c == carriage_return) → (two, last) ≡ flags → entering after_return run two last (state bytes cs part old kept) ≡ state more (cs ++ c ∷ []) [] run flags
+      pub next_is : (after_return : Bool) (old run : List PlacedCharacter) (two last : Bool) (flags kept : Bool × Bool) → after_return ≡ (c == carriage_return) → (two, last) ≡ flags → entering after_return run two last (state bytes cs part old kept) ≡ state more (cs ++ c ∷ []) [] run flags
       next_is after_return old run two last flags kept a f =
           λ i. record {
             at = size_more i;
@@ -282,27 +282,27 @@ module _ (syntax : Syntax) (limits : Limits) (spot : Spot) (o : occurs syntax sp
           }
 
   -- whatever comes next
-  lifted : (c : ℕ) (run : List Entry) {es : List Entry} {items : List Item} → Spelled syntax es (next_of (values run) None) items → Spelled syntax es (next_of (values run) (Some c)) items
+  lifted : (c : ℕ) (run : List PlacedCharacter) {es : List PlacedCharacter} {items : List Item} → Spelled syntax es (next_of (values run) None) items → Spelled syntax es (next_of (values run) (Some c)) items
   lifted c [] sp = spelled_before syntax None (Some c) (λ i text token t. any_next syntax i text token t (Some c)) sp
   lifted c (e ∷ run) sp = sp
 
   -- the tokens of a run, where an entry is behind it
-  module _ (e : Entry) (front : List Entry) (items : List Item) where
-    after_whole : (run : List Entry) (token : Token) → Spelled syntax front (next_of (values run) (Some e.value)) items → spelling.Spells syntax inside (values (run ++ e ∷ [])) None token → Spelled syntax (front ++ (run ++ e ∷ [])) None (items ++ item_of inside token (run ++ e ∷ []) ∷ [])
-    after_whole [] token a k = spelled_snoc syntax e [] None (item_of inside token (e ∷ [])) a refl k refl refl
-    after_whole (d ∷ r) token a k = spelled_snoc syntax d (r ++ e ∷ []) None (item_of inside token (d ∷ (r ++ e ∷ []))) a refl k refl refl
+  module _ (e : PlacedCharacter) (front : List PlacedCharacter) (items : List Item) where
+    after_whole : (run : List PlacedCharacter) (token : Token) → Spelled syntax front (next_of (values run) (Some e.value)) items → spelling.Spells syntax inside (values (run ++ e ∷ [])) None token → Spelled syntax (front ++ (run ++ e ∷ [])) None (items ++ item_of_run inside token (run ++ e ∷ []) ∷ [])
+    after_whole [] token a k = spelled_snoc syntax e [] None (item_of_run inside token (e ∷ [])) a refl k refl refl
+    after_whole (d ∷ r) token a k = spelled_snoc syntax d (r ++ e ∷ []) None (item_of_run inside token (d ∷ (r ++ e ∷ []))) a refl k refl refl
 
-    after_ended : (run : List Entry) (token : Token) → Spelled syntax front (next_of (values run) None) items → GoesOn syntax inside [] (values run) → verdict syntax inside (values run) e.value ≡ ended token
-        → Spelled syntax (front ++ run) (Some e.value) (items ++ item_of inside token run ∷ [])
+    after_ended : (run : List PlacedCharacter) (token : Token) → Spelled syntax front (next_of (values run) None) items → CharactersGoOn syntax inside [] (values run) → verdict syntax inside (values run) e.value ≡ ended token
+        → Spelled syntax (front ++ run) (Some e.value) (items ++ item_of_run inside token run ∷ [])
     after_ended [] token sp g v = absurd (never_ended inside e.value token v)
-    after_ended (d ∷ r) token sp g v = spelled_snoc syntax d r (Some e.value) (item_of inside token (d ∷ r)) sp refl (spells_read syntax inside o (values (d ∷ r)) (Some e.value) token (at_next (values (d ∷ r)) e.value token g v)) refl refl
+    after_ended (d ∷ r) token sp g v = spelled_snoc syntax d r (Some e.value) (item_of_run inside token (d ∷ r)) sp refl (spells_read syntax inside o (values (d ∷ r)) (Some e.value) token (at_next (values (d ∷ r)) e.value token g v)) refl refl
 
-  content_of : (token : Token) (run : List Entry) → (item_of inside token run).content ≡ inside
+  content_of : (token : Token) (run : List PlacedCharacter) → (item_of_run inside token run).content ≡ inside
   content_of token [] = refl
   content_of token (e ∷ run) = refl
 
   -- what one more byte does
-  module _ (bytes cs part : List ℕ) (front run : List Entry) (items : List Item) (h : Has bytes cs part front run items) (byte : ℕ) (page : s.at + length bytes < limits.page) where
+  module _ (bytes cs part : List ℕ) (front run : List PlacedCharacter) (items : List Item) (h : Has bytes cs part front run items) (byte : ℕ) (page : s.at + length bytes < limits.page) where
     abbrev next : Scanning
     next = state bytes cs part run (brackets items)
 
@@ -353,12 +353,12 @@ module _ (syntax : Syntax) (limits : Limits) (spot : Spot) (o : occurs syntax sp
       abbrev does_pass : Bool
       does_pass = pass bytes byte cs part c h.are form
 
-      abbrev e : Entry
+      abbrev e : PlacedCharacter
       e = new_entry bytes byte cs part c h.are form
 
       -- with it these tokens are told, and this run is left
-      with_run : (after_return two last : Bool) (front left : List Entry) (others : List Item) → after_return ≡ (c == carriage_return) → (two, last) ≡ brackets others → front ++ left ≡ entries_of chars
-          → Spelled syntax front (next_of (values left) None) others → Fine others → GoesOn syntax inside [] (values left)
+      with_run : (after_return two last : Bool) (front left : List PlacedCharacter) (others : List Item) → after_return ≡ (c == carriage_return) → (two, last) ≡ brackets others → front ++ left ≡ entries_of chars
+          → Spelled syntax front (next_of (values left) None) others → Fine others → CharactersGoOn syntax inside [] (values left)
           → ((from : ℕ) → is_known_tag syntax inside (values left) ≡ true → s.at + length (bytes ++ byte ∷ []) ≤ first_of left from + limits.tag) → IsTold (bytes ++ byte ∷ []) (entering after_return left two last next) others
       with_run after_return two last front left others a f read sp fine g short =
           subst (λ n. IsTold (bytes ++ byte ∷ []) n others) (sym (next_is bytes byte cs part c h.are form after_return run left two last (brackets others) (brackets items) a f))
@@ -377,9 +377,9 @@ module _ (syntax : Syntax) (limits : Limits) (spot : Spot) (o : occurs syntax sp
             short = short;
           }))
 
-      does_passed : does_pass ≡ true → Here (Ok (record { next = passed next; items = [] }))
+      does_passed : does_pass ≡ true → Here (Ok (record { next = passed_over next; items = [] }))
       does_passed p =
-          subst (λ xs. IsTold (bytes ++ byte ∷ []) (passed next) xs) (sym (append-nil items))
+          subst (λ xs. IsTold (bytes ++ byte ∷ []) (passed_over next) xs) (sym (append-nil items))
           (with_run false next.two next.last front run items (sym (passing_is next.started next.after_return c ((c == carriage_return) ≡ false) p (no_mark c) (no_return c))) refl
           (h.read ∙ sym (entries_are bytes byte cs part c h.are form ∙ (ap (λ x. entries_of cs ++ x) (cond-true _ _ _ p) ∙ append-nil (entries_of cs)))) h.spelled h.fine h.goes (room_from room))
 
@@ -391,7 +391,7 @@ module _ (syntax : Syntax) (limits : Limits) (spot : Spot) (o : occurs syntax sp
 
       -- it is entered
       module _ (enters : does_pass ≡ false) (space : known_with ≡ true → next.at < token_at next + limits.tag) where
-        ent : Enters limits next byte c
+        ent : EntersCharacter limits next byte c
         ent = record { page = page; is = is; no_nul = eqb-false c 0 nonzero; enters = enters }
 
         fw : FitsWith syntax limits spot next c
@@ -405,11 +405,11 @@ module _ (syntax : Syntax) (limits : Limits) (spot : Spot) (o : occurs syntax sp
         on_goes v =
             subst (λ xs. IsTold (bytes ++ byte ∷ []) (entering (c == carriage_return) (run ++ e ∷ []) next.two next.last next) xs) (sym (append-nil items))
             (with_run (c == carriage_return) next.two next.last front (run ++ e ∷ []) items refl refl read_more (subst (λ n. Spelled syntax front n items) (sym (values_next run e [] None)) (lifted e.value run h.spelled)) h.fine
-            (subst (λ x. GoesOn syntax inside [] x) (sym values_with) (goes_more syntax inside [] (values run) e.value h.goes v))
+            (subst (λ x. CharactersGoOn syntax inside [] x) (sym values_with) (goes_more syntax inside [] (values run) e.value h.goes v))
             (λ from k. let r = space k in let f = first_snoc run e from in let z = size_more bytes byte in omega arith))
 
         abbrev item : Token → Item
-        item token = item_of inside token (run ++ e ∷ [])
+        item token = item_of_run inside token (run ++ e ∷ [])
 
         token_is : (token : Token) → (item token).token ≡ token
         token_is token = token_of_item inside token (run ++ e ∷ [])
@@ -449,7 +449,7 @@ module _ (syntax : Syntax) (limits : Limits) (spot : Spot) (o : occurs syntax sp
         -- a token ended before the entry
         module _ (token : Token) (v : verdict syntax inside (values run) e.value ≡ ended token) where
           abbrev text_item : Item
-          text_item = item_of inside token run
+          text_item = item_of_run inside token run
 
           sp_text : Spelled syntax (front ++ run) (Some e.value) (items ++ text_item ∷ [])
           sp_text = after_ended e front items run token h.spelled h.goes v
@@ -469,7 +469,7 @@ module _ (syntax : Syntax) (limits : Limits) (spot : Spot) (o : occurs syntax sp
           -- with the entry a character is whole
           does_character : (x : ℕ) → verdict syntax inside [] e.value ≡ whole (character x) → Then (whole (character x))
           does_character x k =
-              let it : Item = item_of inside (character x) (e ∷ []) in
+              let it : Item = item_of_run inside (character x) (e ∷ []) in
               let bracket = is_literal right_bracket it in
               subst (λ xs. IsTold (bytes ++ byte ∷ []) (entering (c == carriage_return) [] false bracket next) xs) (append_assoc items (text_item ∷ []) (it ∷ []))
               (with_run (c == carriage_return) false bracket ((front ++ run) ++ e ∷ []) [] ((items ++ text_item ∷ []) ++ it ∷ []) refl
@@ -531,7 +531,7 @@ module _ (syntax : Syntax) (limits : Limits) (spot : Spot) (o : occurs syntax sp
 
   -- and then the others
   abbrev Told : List ℕ → Result Scanned Fault → Type 0
-  Told bytes (Ok r) = Spells syntax limits spot s bytes r
+  Told bytes (Ok r) = ScanSpells syntax limits spot s bytes r
   Told bytes (Err fault) = FirstFault syntax limits spot s bytes fault
 
   on_bytes : (rest bytes : List ℕ) (mid : Scanned) → IsTold bytes mid.next mid.items → Told (bytes ++ rest) (scan_on syntax limits spot (Ok mid) rest)
@@ -545,7 +545,7 @@ module _ (syntax : Syntax) (limits : Limits) (spot : Spot) (o : occurs syntax sp
           subst (λ x. Told (bytes ++ byte ∷ rest) x) (sym (scan_fault syntax limits spot (fault_in mid.next kind) rest))
           (record { front = bytes; byte = byte; rest = rest; are = refl; scanned = mid; spells = t; refuses = k; at_is = t.at_is; token_is = refl })
 
-  at_start : IsBetween s → IsTold [] s []
+  at_start : TokensAreWhole s → IsTold [] s []
   at_start b =
       subst (λ n. IsTold [] n []) (λ i. record { at = same i; held = sym b.held i; started = or-false s.started i; after_return = s.after_return; run = sym b.run i; two = s.two; last = s.last })
       (told_of [] [] [] [] [] [] (record {
@@ -564,7 +564,7 @@ module _ (syntax : Syntax) (limits : Limits) (spot : Spot) (o : occurs syntax sp
       same : s.at + 0 ≡ s.at
       same = omega arith
 
-pub all_so : (syntax : Syntax) (limits : Limits) (spot : Spot) (s : Scanning) (bytes : List ℕ) (r : Result Scanned Fault) (i : is_of_syntax syntax spot.inside ≡ true) → IsBetween s → scan_from syntax limits spot s bytes ≡ r → Told syntax limits spot (sym (same_content syntax spot.inside) ∙ i) s bytes r
+pub all_so : (syntax : Syntax) (limits : Limits) (spot : Spot) (s : Scanning) (bytes : List ℕ) (r : Result Scanned Fault) (i : is_of_syntax syntax spot.inside ≡ true) → TokensAreWhole s → scan_from syntax limits spot s bytes ≡ r → Told syntax limits spot (sym (same_content syntax spot.inside) ∙ i) s bytes r
 all_so syntax limits spot s bytes r i b h =
     let o = sym (same_content syntax spot.inside) ∙ i in
     subst (λ x. Told syntax limits spot o s bytes x) h (on_bytes syntax limits spot o s bytes [] (record { next = s; items = [] }) (at_start syntax limits spot o s b))
@@ -572,18 +572,18 @@ all_so syntax limits spot s bytes r i b h =
 pub steps_spell : StepsSpell
 steps_spell v new first s before piece result i b h st = by result st
   where
-    on : (bytes : List ℕ) → scan_from v.reading.setting.syntax v.reading.setting.limits (spot_of v.reading) first (before ++ bytes) ≡ scan_from v.reading.setting.syntax v.reading.setting.limits (spot_of v.reading) s bytes
+    on : (bytes : List ℕ) → scan_from v.reading.setting.syntax v.reading.setting.limits (reading_spot v.reading) first (before ++ bytes) ≡ scan_from v.reading.setting.syntax v.reading.setting.limits (reading_spot v.reading) s bytes
     on bytes =
-        on_append v.reading.setting.syntax v.reading.setting.limits (spot_of v.reading) (Ok (record { next = first; items = [] })) before bytes
-        ∙ ap (λ r. scan_on v.reading.setting.syntax v.reading.setting.limits (spot_of v.reading) r bytes) h
+        on_append v.reading.setting.syntax v.reading.setting.limits (reading_spot v.reading) (Ok (record { next = first; items = [] })) before bytes
+        ∙ ap (λ r. scan_on v.reading.setting.syntax v.reading.setting.limits (reading_spot v.reading) r bytes) h
 
     by : (result : Result (ℕ × shown.Token) Stop) → Steps v s piece result new → StepAnswers v first s before piece result new
     by (Ok r) k =
         record {
           scanned = k.scanned;
-          spells = all_so v.reading.setting.syntax v.reading.setting.limits (spot_of v.reading) first (before ++ take r.0 piece) (Ok k.scanned) i b (on (take r.0 piece) ∙ k.read);
+          spells = all_so v.reading.setting.syntax v.reading.setting.limits (reading_spot v.reading) first (before ++ take r.0 piece) (Ok k.scanned) i b (on (take r.0 piece) ∙ k.read);
           are = k.are;
           stands = k.stands;
         }
-    by (Err (stop.Fault fault)) k = all_so v.reading.setting.syntax v.reading.setting.limits (spot_of v.reading) first (before ++ piece) (Err fault) i b (on piece ∙ k.first)
+    by (Err (stop.Fault fault)) k = all_so v.reading.setting.syntax v.reading.setting.limits (reading_spot v.reading) first (before ++ piece) (Err fault) i b (on piece ∙ k.first)
     by (Err stop.NoMemory) k = tt

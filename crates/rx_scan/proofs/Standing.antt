@@ -1,5 +1,5 @@
 -- What a reading stands for: after one more character, and where only its setting changes.
-use Rattle.rx_scan.proofs.Common.{◌≡◌, ◌∙◌, ℕ, ◌+◌, ◌-◌, Bool, true, false, List, [], ◌∷◌, ◌++◌, refl, ap, sym, subst, arith, Err, Chars, split, Entry, Syntax, Token, character, values, is_strict_literal, Content, Scanning, first_of, starts_at, entering, scan_from, read_byte, values_append, take, Fault, Stop, TagSoFar, Buffered, entered, Pending, PendsAs, Reading, Scanner, spot_of, ReadsAs, ScanStands, Prepared, Took, Faults, Runs, Advances, Tells, setting_after, is_tag, inside_of}
+use Rattle.rx_scan.proofs.Common.{◌≡◌, ◌∙◌, ℕ, ◌+◌, ◌-◌, Bool, true, false, List, [], ◌∷◌, ◌++◌, refl, ap, sym, subst, arith, Err, Chars, split, PlacedCharacter, Syntax, Token, character, values, is_strict_literal, Content, Scanning, first_of, starts_at, entering, scan_from, read_byte, values_append, take, Fault, Stop, TagSoFar, Buffered, entered, Pending, PendsAs, Reading, Scanner, reading_spot, ReadsAs, ScanStands, Prepared, Took, Faults, Runs, Advances, TellsTokens, setting_after, is_tag, moved_inside}
 use Rattle.rx_grammar.specs.declared.contents.Content.TheVariants as content
 use Rattle.rx_scan.specs.declared.marks.TokenState.{TokenState}
 use Rattle.rx_scan.specs.declared.marks.TokenState.TheVariants as mark
@@ -14,11 +14,11 @@ pub some_mark : (s : Syntax) (i : Content) (m : TokenState) (run : Chars) (t : T
 some_mark s i mark.Nothing run t text x more place h e = absurd (let k = sym h ∙ e in cc)
 some_mark s i _ run t text x more place h e = refl
 
-pub no_values : (run : List Entry) → values run ≡ [] → run ≡ []
+pub no_values : (run : List PlacedCharacter) → values run ≡ [] → run ≡ []
 no_values [] e = refl
 no_values (x ∷ run) e = absurd (cc)
 
-pub first_stays : (run : List Entry) (entry : Entry) (x : ℕ) (more : Chars) (a b : ℕ) → values run ≡ x ∷ more → first_of (run ++ entry ∷ []) a ≡ first_of run b
+pub first_stays : (run : List PlacedCharacter) (entry : PlacedCharacter) (x : ℕ) (more : Chars) (a b : ℕ) → values run ≡ x ∷ more → first_of (run ++ entry ∷ []) a ≡ first_of run b
 first_stays [] entry x more a b e = absurd (cc)
 first_stays (y ∷ run) entry x more a b e = refl
 
@@ -27,7 +27,7 @@ starts_next at = omega arith
 
 module _ (v : Reading) (s : Scanning) (h : ReadsAs v s) (after_return : Bool) where
   -- behind a character that is entered, with this run left
-  pub after : (setting : Setting) (place : Position) (p : Pending) (text : Buffered) (end from : ℕ) (run : List Entry) (two last : Bool)
+  pub after : (setting : Setting) (place : Position) (p : Pending) (text : Buffered) (end from : ℕ) (run : List PlacedCharacter) (two last : Bool)
       → place ≡ record { at = v.place.at + 1; starts = v.place.at + 1; token = from; started = true; after_return = after_return; two = two; last = last } → token_from p.mark place ≡ first_of run (s.at + 1 - 0) → p.tag.syntax ≡ setting.syntax
       → PendsAs setting.syntax setting.inside p.mark p.run p.tag (values run) → ReadsAs (record { setting = setting; place = place; held = []; pending = p; text = text; end = end }) (entering after_return run two last s)
   after setting place p text end from run two last pl token y k =
@@ -49,7 +49,7 @@ module _ (v : Reading) (s : Scanning) (h : ReadsAs v s) (after_return : Bool) wh
   place_on = λ i. record { at = v.place.at + 1; starts = v.place.at + 1; token = v.place.token; started = true; after_return = after_return; two = h.two i; last = h.last i }
 
   -- the token goes on
-  pub went : (entry : Entry) (p : Pending) (text : Chars) (x : ℕ) (more : Chars) → text ≡ values s.run → text ≡ x ∷ more → p.tag.syntax ≡ v.setting.syntax
+  pub went : (entry : PlacedCharacter) (p : Pending) (text : Chars) (x : ℕ) (more : Chars) → text ≡ values s.run → text ≡ x ∷ more → p.tag.syntax ≡ v.setting.syntax
       → PendsAs v.setting.syntax v.setting.inside p.mark p.run p.tag (text ++ entry.value ∷ []) → token_from v.pending.mark v.place ≡ v.place.token
       → ReadsAs (with_parts v v.setting (entered after_return v.place) p v.text) (entering after_return (s.run ++ entry ∷ []) s.two s.last s)
   went entry p text x more t e y k o =
@@ -59,7 +59,7 @@ module _ (v : Reading) (s : Scanning) (h : ReadsAs v s) (after_return : Bool) wh
       y (subst (λ (z : Chars). PendsAs v.setting.syntax v.setting.inside p.mark p.run p.tag z) (ap (λ z. z ++ entry.value ∷ []) t ∙ sym (values_append s.run (entry ∷ []))) k)
 
   -- a token begins
-  pub begins : (entry : Entry) (p : Pending) (setting : Setting) (text : Buffered) (place : Position) (two last : Bool) → entry.first ≡ starts_at s → setting.syntax ≡ v.setting.syntax → setting.inside ≡ v.setting.inside
+  pub begins : (entry : PlacedCharacter) (p : Pending) (setting : Setting) (text : Buffered) (place : Position) (two last : Bool) → entry.first ≡ starts_at s → setting.syntax ≡ v.setting.syntax → setting.inside ≡ v.setting.inside
       → place ≡ record { at = v.place.at + 1; starts = v.place.at + 1; token = v.place.starts; started = true; after_return = after_return; two = two; last = last }
       → p.tag.syntax ≡ v.setting.syntax → PendsAs v.setting.syntax v.setting.inside p.mark p.run p.tag (entry.value ∷ [])
       → ReadsAs (with_parts v setting place p text) (entering after_return (entry ∷ []) two last s)
@@ -86,7 +86,7 @@ pub no_literal : (c : ℕ) (i : Content) (token : Token) → is_character token 
 no_literal c content.Strict (character d) h = absurd (cc)
 no_literal c _ _ h = refl
 
-pub stands_inside : (inside : Content) (drops : Bool) (v : Scanner) (s : Scanning) → v.reading.pending.mark ≡ mark.Nothing → ScanStands v s → ScanStands (inside_of inside drops v) s
+pub stands_inside : (inside : Content) (drops : Bool) (v : Scanner) (s : Scanning) → v.reading.pending.mark ≡ mark.Nothing → ScanStands v s → ScanStands (moved_inside inside drops v) s
 stands_inside inside drops v s n h =
     let r = h.reads_as in
     let none = subst (λ (m : TokenState). PendsAs v.reading.setting.syntax v.reading.setting.inside m v.reading.pending.run v.reading.pending.tag (values s.run)) n r.pends in
@@ -127,7 +127,7 @@ prepared_reads old new s p h =
           (λ e. rw (p.between e) (rw (p.between e) at r.pends)) (λ e. r.pends));
     }
 
-spot_same : (a b : Reading) → a.setting ≡ b.setting → spot_of a ≡ spot_of b
+spot_same : (a b : Reading) → a.setting ≡ b.setting → reading_spot a ≡ reading_spot b
 spot_same a b e = λ i. record { inside = (e i).inside; leads = (e i).leads }
 
 pub took_same : (a b : Reading) (s : Scanning) (piece : List ℕ) (n : ℕ) (answer : TokenKind) (new : Reading) → a.setting ≡ b.setting → Took a s piece n answer new → Took b s piece n answer new
@@ -137,7 +137,7 @@ took_same a b s piece n answer new e t =
       scanned = t.scanned;
       read = (λ i. scan_from (sym e i).syntax (sym e i).limits (spot_same b a (sym e) i) s (take n piece)) ∙ t.read;
       reads_as = t.reads_as;
-      tells = subst (λ (x : Setting). Tells x.drops answer s (take n piece) t.scanned.items new) e t.tells;
+      tells = subst (λ (x : Setting). TellsTokens x.drops answer s (take n piece) t.scanned.items new) e t.tells;
       mark = t.mark;
       setting = t.setting ∙ ap (λ x. setting_after answer new x t.scanned.items) e;
       all = t.all;

@@ -1,9 +1,9 @@
 -- A tag that is taken whole is read like its bytes one after another.
-use Rattle.rx_scan.proofs.Common.{◌≡◌, ◌∙◌, ℕ, ◌+◌, ◌-◌, ◌≤◌, ◌<◌, Bool, true, false, List, [], ◌∷◌, length, take, drop, refl, ap, sym, subst, inl, Ok, arith, get_or, length-take-le, Some, zero, suc, length-drop, list_all, not, slice_get, or_from, and-false, common_steps, as_line_end, has_markup, first_whole, Content, is_last, TagState, is_none_held, is_printed, GoesBy, TagSoFar, StepGives, TakesWhole, no_tag, FeedsFront, OpensTag, of_opening, in_tag, Pending, fed, Reading, ReadsAs, Took, is_quiet}
+use Rattle.rx_scan.proofs.Common.{◌≡◌, ◌∙◌, ℕ, ◌+◌, ◌-◌, ◌≤◌, ◌<◌, Bool, true, false, List, [], ◌∷◌, length, take, drop, refl, ap, sym, subst, inl, Ok, arith, get_or, length-take-le, Some, zero, suc, length-drop, list_all, not, slice_get, or_from, and-false, common_steps, as_line_end, has_markup, first_whole, Content, is_last, TagState, is_none_held, is_printed, GoesBy, TagSoFar, StepGives, TakesWhole, no_tag, FeedsFront, OpensTag, of_opening, with_tag_mark, Pending, fed, Reading, ReadsAs, Took, is_quiet}
 use Rattle.rx_grammar.specs.declared.contents.Content.TheVariants as content
 use Rattle.rx_pages.specs.PageReader as reader
 use Rattle.rx_tags.specs.declared.tag_text.TagStep.TheVariants.{Done}
-use Rattle.rx_tags.specs.TagReads.{Ends}
+use Rattle.rx_tags.specs.TagReads.{TagReadEnds}
 use Rattle.rx_tags.proofs.TakeLemmas.{chosen as some_taken}
 use Rattle.rx_scan.specs.declared.answers.TokenKind.TheVariants as what
 use Rattle.rx_scan.specs.declared.marks.Move.{Move}
@@ -25,15 +25,15 @@ use Rattle.rx_scan.proofs.RunLemmas.{ReadsOn, reads_none}
 
 -- the `>` that ends a tag is read as its last byte
 module _ (l new : Reading) (m : l.pending.mark ≡ mark.Tag) (held : l.held ≡ []) (page : l.place.at < l.setting.limits.page) (tag : l.place.at < l.place.token + l.setting.limits.tag)
-    (t : entries.Tags l 62 false (entries.marked mark.Tag l.pending) (Ok what.Tag) new) where
+    (t : entries.Tags l 62 false (entries.with_mark mark.Tag l.pending) (Ok what.Tag) new) where
   not_long : (known : Bool) → entries.is_long l known ≡ false
   not_long = within_limit l (subst (λ (x : TokenState). l.place.at < entries.token_from x l.place + l.setting.limits.tag) (sym m) tag)
 
-  pub ends_read : entries.Reads l 62 (Ok what.Tag) new
+  pub ends_read : entries.ReadsByte l 62 (Ok what.Tag) new
   ends_read =
-      character_read l new [] 62 62 (Ok what.Tag) held (first_whole 62 (omega arith)) page refl (not_long (known_tags.is_tag l.pending.mark))
+      character_read l new [] 62 62 (Ok what.Tag) held (first_whole 62 (omega arith)) page refl (not_long (known_tags.lies_in_tag l.pending.mark))
       (not_long (known_tags.is_tag_with l.setting.syntax l.setting.inside l.pending.mark (as_line_end 62))) (or_from _ _ (and-false (not l.place.started)) (and-false l.place.after_return))
-      (subst (λ (x : Move). entries.Enters l 62 false x (Ok what.Tag) new) (sym (ap (λ (x : TokenState). entries.judged l.setting l.place.two 62 (marks.move_of l.setting.syntax l.setting.inside x 62)) m)) t)
+      (subst (λ (x : Move). entries.Enters l 62 false x (Ok what.Tag) new) (sym (ap (λ (x : TokenState). entries.judged l.setting l.place.two 62 (marks.scan_move l.setting.syntax l.setting.inside x 62)) m)) t)
 
 pub none_held : (held : List ℕ) → is_none_held held ≡ true → held ≡ []
 none_held [] h = refl
@@ -61,7 +61,7 @@ module _ (v : Reading) (p : Pending) (bytes : List ℕ) (limit n : ℕ) (o : v.p
   abbrev before : Reading
   before = entries.with_parts v v.setting (fed (length (take t.at bytes)) v.place) (record { mark = mark.Tag; run = v.pending.run; tag = t.before }) v.text
 
-  feeds : FeedsFront (in_tag v) (take t.at bytes) before
+  feeds : FeedsFront (with_tag_mark v) (take t.at bytes) before
   feeds =
       let b = bounds in
       let all = t.front.front in
@@ -102,7 +102,7 @@ module _ (v : Reading) (p : Pending) (bytes : List ℕ) (limit n : ℕ) (o : v.p
 -- the tag is whole
 pub is_whole : (old tag : TagSoFar) (c : ℕ) → StepGives old c (Ok Done) tag → is_last tag.state.phase ≡ true
 is_whole old tag c g =
-    let e : Ends (record { syntax = old.syntax; state = old.state }) c tag.state = g.0 in
+    let e : TagReadEnds (record { syntax = old.syntax; state = old.state }) c tag.state = g.0 in
     ap (λ (x : TagState). is_last x.phase) e.kept ∙ e.whole
 
 pub lends_tag : (l new : Reading) (bytes : List ℕ) (n : ℕ) → ReadsWholeTag l bytes n new → (is_last new.pending.tag.state.phase ≡ true) × (new.pending.mark ≡ mark.Nothing)
@@ -141,12 +141,12 @@ module _ (l : Reading) (m : l.pending.mark ≡ mark.Nothing) (held : l.held ≡ 
 
   begins : entries.move_at l 60 ≡ move.Begins mark.LessThan
   begins =
-      ap (λ (x : TokenState). entries.judged l.setting l.place.two 60 (marks.move_of l.setting.syntax l.setting.inside x 60)) m
+      ap (λ (x : TokenState). entries.judged l.setting l.place.two 60 (marks.scan_move l.setting.syntax l.setting.inside x 60)) m
       ∙ ap (λ (x : TokenState). entries.judged l.setting l.place.two 60 (move.Begins x)) (opens_markup l.setting.inside markup)
 
-  pub less_than_read : entries.Reads l 60 (Ok what.Nothing) begun
+  pub less_than_read : entries.ReadsByte l 60 (Ok what.Nothing) begun
   less_than_read =
-      character_read l begun [] 60 60 (Ok what.Nothing) held (first_whole 60 (omega arith)) page refl (ap (λ (x : TokenState). entries.is_long l (known_tags.is_tag x)) m)
+      character_read l begun [] 60 60 (Ok what.Nothing) held (first_whole 60 (omega arith)) page refl (ap (λ (x : TokenState). entries.is_long l (known_tags.lies_in_tag x)) m)
       (ap (λ (x : TokenState). entries.is_long l (known_tags.is_tag_with l.setting.syntax l.setting.inside x (as_line_end 60))) m) (or_from _ _ (and-false (not l.place.started)) (and-false l.place.after_return))
       (subst (λ (x : Move). entries.Enters l 60 false x (Ok what.Nothing) begun) (sym begins) (refl, refl))
 
@@ -183,7 +183,7 @@ opened_took old l new s piece i n k r e t =
     let byte : get_or piece (i + t.at) 0 ≡ 62 = sym there ∙ c.closes in
     let mark_is : t.before.pending.mark ≡ mark.Tag = ap (λ (x : Reading). x.pending.mark) f.is in
     let held_is : t.before.held ≡ [] = ap (λ (x : Reading). x.held) f.is in
-    let reads = subst (λ (x : ℕ). entries.Reads t.before x (Ok what.Tag) new) (sym byte) (ends_read t.before new mark_is held_is t.page t.tag t.ends) in
+    let reads = subst (λ (x : ℕ). entries.ReadsByte t.before x (Ok what.Tag) new) (sym byte) (ends_read t.before new mark_is held_is t.page t.tag t.ends) in
     let took = token_read old t.before new s piece (i + t.at) inside front what.Tag refl (inl text) reads in
     subst (λ (x : ℕ). Took old s piece x what.Tag new) (omega (arith, t.count)) took
   where
@@ -197,7 +197,7 @@ tag_first old new s piece n e h t =
     let first : get_or piece 0 0 ≡ 60 = ap (λ (x : List ℕ). get_or x 0 0) t.opens in
     let rest : drop 1 piece ≡ t.rest = ap (λ (x : List ℕ). drop 1 x) t.opens in
     let some : 0 < length piece = subst (λ (x : List ℕ). 0 < length x) (sym t.opens) (omega arith) in
-    let reads = subst (λ (x : ℕ). entries.Reads old x (Ok what.Nothing) (begun old b.between b.held b.page b.markup)) (sym first) (less_than_read old b.between b.held b.page b.markup) in
+    let reads = subst (λ (x : ℕ). entries.ReadsByte old x (Ok what.Nothing) (begun old b.between b.held b.page b.markup)) (sym first) (less_than_read old b.between b.held b.page b.markup) in
     let on = next_read old old (begun old b.between b.held b.page b.markup) s piece 0 some (reads_none old s e h) what.Nothing refl reads in
     let took = opened_took old (begun old b.between b.held b.page b.markup) new s piece 1 t.behind (omega (arith, some)) on e (subst (λ (x : List ℕ). ReadsOpened (begun old b.between b.held b.page b.markup) x t.behind new) (sym rest) b.opened) in
     subst (λ (x : ℕ). Took old s piece x what.Tag new) (omega (arith, t.count)) took

@@ -28,10 +28,10 @@ use Rattle.rx_scan.specs.declared.marks.Move.TheVariants as move
 use Rattle.rx_scan.specs.declared.places.Position.{Position}
 use Rattle.rx_scan.specs.declared.places.Setting.{Setting}
 use Rattle.rx_scan.specs.Buffers.{Buffered}
-use Rattle.rx_scan.specs.KnownTags.{is_tag, is_tag_with}
-use Rattle.rx_scan.specs.Marks.{at_first, move_of}
+use Rattle.rx_scan.specs.KnownTags.{is_tag_with, lies_in_tag}
+use Rattle.rx_scan.specs.Marks.{at_first, scan_move}
 use Rattle.rx_scan.specs.Pending.{Pending, bracket_text, first_char, phase_of}
-use Rattle.rx_scan.specs.Places.{holding, entered, begun, ended, cut}
+use Rattle.rx_scan.specs.Places.{byte_held, entered, begun, ended, cut}
 use Rattle.rx_scan.specs.Scanner.{Reading}
 
 -- where the token begins that the next character belongs to
@@ -49,7 +49,7 @@ judged setting two c (move.Ends whole.Doctype) = if setting.leads then move.Ends
 judged setting two c other = other
 
 abbrev pub move_at : Reading → ℕ → Move
-move_at v c = judged v.setting v.place.two c (move_of v.setting.syntax v.setting.inside v.pending.mark c)
+move_at v c = judged v.setting v.place.two c (scan_move v.setting.syntax v.setting.inside v.pending.mark c)
 
 -- a literal `]` of XHTML
 abbrev pub is_bracket : Setting → ℕ → Bool
@@ -69,11 +69,11 @@ abbrev pub with_parts : Reading → Setting → Position → Pending → Buffere
 with_parts v setting place pending text =
     record { setting = setting; place = place; held = []; pending = pending; text = text; end = v.end }
 
-abbrev pub marked : TokenState → Pending → Pending
-marked m p = record { mark = m; run = p.run; tag = p.tag }
+abbrev pub with_mark : TokenState → Pending → Pending
+with_mark m p = record { mark = m; run = p.run; tag = p.tag }
 
-abbrev pub kept_by : TokenState → ℕ → Pending → Pending
-kept_by m c p = record { mark = m; run = p.run ++ c ∷ []; tag = p.tag }
+abbrev pub with_character : TokenState → ℕ → Pending → Pending
+with_character m c p = record { mark = m; run = p.run ++ c ∷ []; tag = p.tag }
 
 -- the token goes on
 abbrev pub gone : Reading → Bool → Pending → Reading
@@ -85,12 +85,12 @@ with_begun v after_return m = with_parts v v.setting (begun after_return v.place
 
 -- a token is whole of which no text is told
 abbrev pub with_ended : Reading → Bool → Setting → Reading
-with_ended v after_return setting = with_parts v setting (ended after_return false v.place) (marked mark.Nothing v.pending) v.text
+with_ended v after_return setting = with_parts v setting (ended after_return false v.place) (with_mark mark.Nothing v.pending) v.text
 
 -- the tag that was read is whole
 abbrev pub with_tag : Reading → Bool → Reading
 with_tag v after_return =
-    record { setting = after_tag v.setting (is_closing v.pending.tag.state.phase); place = ended after_return false v.place; held = []; pending = marked mark.Nothing v.pending; text = v.text; end = v.place.at }
+    record { setting = after_tag v.setting (is_closing v.pending.tag.state.phase); place = ended after_return false v.place; held = []; pending = with_mark mark.Nothing v.pending; text = v.text; end = v.place.at }
 
 -- the text has one more character, unless it is a line feed that is dropped
 abbrev pub is_dropped : Setting → ℕ → Bool
@@ -108,13 +108,13 @@ pub record TextGains (old new : Buffered) (c : ℕ) : Type 0 where
   pub room : old.room ≤ new.room
 
 -- text is told, and what is left pending is `pending`
-pub record Tells (old : Reading) (place : Position) (pending : Pending) (new : Reading) (more : Chars) : Type 0 where
+pub record TellsMoreText (old : Reading) (place : Position) (pending : Pending) (new : Reading) (more : Chars) : Type 0 where
   pub text : TextGrows old.text new.text more
   pub is : new ≡ with_parts old (undropped old.setting) place pending new.text
 
-pub record TellsOne (old : Reading) (place : Position) (new : Reading) (c : ℕ) : Type 0 where
+pub record TellsCharacter (old : Reading) (place : Position) (new : Reading) (c : ℕ) : Type 0 where
   pub text : TextGains old.text new.text c
-  pub is : new ≡ with_parts old (undropped old.setting) place (marked mark.Nothing old.pending) new.text
+  pub is : new ≡ with_parts old (undropped old.setting) place (with_mark mark.Nothing old.pending) new.text
 
 abbrev pub OrSpent : {A : Type 0} → Result A Stop → (A → Type 0) → Type 0
 OrSpent (Ok answer) P = P answer
@@ -122,13 +122,13 @@ OrSpent (Err (stop.Fault f)) P = ⊥
 OrSpent (Err stop.NoMemory) P = Unit {0}
 
 -- one character of text, by itself or by a reference
-abbrev pub Says : Reading → ℕ → Position → Result TokenKind Stop → Reading → Type 0
-Says old c place (Ok what.Nothing) new = (is_dropped old.setting c ≡ false) × TellsOne old place new c
-Says old c place (Ok what.Skipped) new =
-    (is_dropped old.setting c ≡ true) × (new ≡ with_parts old (undropped old.setting) place (marked mark.Nothing old.pending) old.text)
-Says old c place (Ok _) new = ⊥
-Says old c place (Err (stop.Fault f)) new = ⊥
-Says old c place (Err stop.NoMemory) new = Unit {0}
+abbrev pub SaysCharacter : Reading → ℕ → Position → Result TokenKind Stop → Reading → Type 0
+SaysCharacter old c place (Ok what.Nothing) new = (is_dropped old.setting c ≡ false) × TellsCharacter old place new c
+SaysCharacter old c place (Ok what.Skipped) new =
+    (is_dropped old.setting c ≡ true) × (new ≡ with_parts old (undropped old.setting) place (with_mark mark.Nothing old.pending) old.text)
+SaysCharacter old c place (Ok _) new = ⊥
+SaysCharacter old c place (Err (stop.Fault f)) new = ⊥
+SaysCharacter old c place (Err stop.NoMemory) new = Unit {0}
 
 abbrev pub Tags : Reading → ℕ → Bool → Pending → Result TokenKind Stop → Reading → Type 0
 Tags old c after_return pending (Ok what.Nothing) new =
@@ -142,33 +142,33 @@ Tags old c after_return pending (Err (stop.Fault f)) new =
 Tags old c after_return pending (Err stop.NoMemory) new = Unit {0}
 
 -- the run was text, and the character is read afresh
-abbrev pub Stops : Reading → ℕ → Bool → First → Result TokenKind Stop → Reading → Type 0
-Stops old c after_return (first.Begins m) result new =
+abbrev pub EndsTextRun : Reading → ℕ → Bool → First → Result TokenKind Stop → Reading → Type 0
+EndsTextRun old c after_return (first.Begins m) result new =
     OrSpent result (λ answer. (answer ≡ what.Nothing)
-    × Tells old (begun after_return (cut old.place)) (record {
+    × TellsMoreText old (begun after_return (cut old.place)) (record {
       mark =
           m;
       run = [];
       tag = no_tag old.pending.tag.syntax;
     }) new (first_char old.pending.mark ∷ old.pending.run))
-Stops old c after_return first.EmitText result new =
+EndsTextRun old c after_return first.EmitText result new =
     OrSpent result (λ answer. (answer ≡ what.Nothing)
-    × Tells old (ended after_return (is_bracket old.setting c) (cut old.place)) (marked mark.Nothing old.pending) new ((first_char old.pending.mark ∷ old.pending.run) ++ c ∷ []))
-Stops old c after_return (first.Refuses kind) result new = result ≡ Err (stop.Fault (fault_at old kind))
+    × TellsMoreText old (ended after_return (is_bracket old.setting c) (cut old.place)) (with_mark mark.Nothing old.pending) new ((first_char old.pending.mark ∷ old.pending.run) ++ c ∷ []))
+EndsTextRun old c after_return (first.Refuses kind) result new = result ≡ Err (stop.Fault (fault_at old kind))
 
 -- the run is told, and its token is over
 pub record TellsRun (old new : Reading) : Type 0 where
   pub text : TextGrows old.text new.text (first_char old.pending.mark ∷ old.pending.run)
   pub is : new ≡ record { setting = undropped old.setting; place = cut old.place; held = old.held; pending = old.pending; text = new.text; end = old.end }
 
-abbrev pub Closes : Reading → Bool → Option ℕ → Result TokenKind Stop → Reading → Type 0
-Closes old after_return (Some d) result new = Says old d (ended after_return false old.place) result new
-Closes old after_return None result new = result ≡ Err (stop.Fault (fault_at old (no_meaning (phase_of old.pending.mark))))
+abbrev pub ClosesReference : Reading → Bool → Option ℕ → Result TokenKind Stop → Reading → Type 0
+ClosesReference old after_return (Some d) result new = SaysCharacter old d (ended after_return false old.place) result new
+ClosesReference old after_return None result new = result ≡ Err (stop.Fault (fault_at old (no_meaning (phase_of old.pending.mark))))
 
-abbrev pub Ends : Reading → Bool → Whole → Result TokenKind Stop → Reading → Type 0
-Ends old after_return whole.Comment result new = (result ≡ Ok what.Skipped) × (new ≡ with_ended old after_return (undropped old.setting))
-Ends old after_return whole.Doctype result new = (result ≡ Ok what.Doctype) × (new ≡ with_ended old after_return (after_doctype old.setting))
-Ends old after_return whole.Section result new =
+abbrev pub TokenEnds : Reading → Bool → Whole → Result TokenKind Stop → Reading → Type 0
+TokenEnds old after_return whole.Comment result new = (result ≡ Ok what.Skipped) × (new ≡ with_ended old after_return (undropped old.setting))
+TokenEnds old after_return whole.Doctype result new = (result ≡ Ok what.Doctype) × (new ≡ with_ended old after_return (after_doctype old.setting))
+TokenEnds old after_return whole.Section result new =
     (result ≡ Ok (if is_empty old.pending.run then what.Skipped else what.Section)) × (new ≡ with_ended old after_return (undropped old.setting))
 
 abbrev pub Went : Reading → Reading → Result TokenKind Stop → Reading → Type 0
@@ -208,8 +208,8 @@ pub record IsReady (old : Reading) (result : Result TokenKind Stop) (new : Readi
 -- what one character does, by its move
 abbrev pub Enters : Reading → ℕ → Bool → Move → Result TokenKind Stop → Reading → Type 0
 Enters old c after_return (move.Begins m) result new = (result ≡ Ok what.Nothing) × (new ≡ with_begun old after_return m)
-Enters old c after_return (move.Continue m) result new = (result ≡ Ok what.Nothing) × (new ≡ gone old after_return (marked m old.pending))
-Enters old c after_return (move.Keeps m) result new = Went old (gone old after_return (kept_by m c old.pending)) result new
+Enters old c after_return (move.Continue m) result new = (result ≡ Ok what.Nothing) × (new ≡ gone old after_return (with_mark m old.pending))
+Enters old c after_return (move.Keeps m) result new = Went old (gone old after_return (with_character m c old.pending)) result new
 Enters old c after_return (move.KeepsAfter b) result new =
     Went old (gone old after_return (record {
       mark =
@@ -217,17 +217,17 @@ Enters old c after_return (move.KeepsAfter b) result new =
       run = (old.pending.run ++ bracket_text b) ++ c ∷ [];
       tag = old.pending.tag;
     })) result new
-Enters old c after_return move.Tags result new = Tags old c after_return (marked mark.Tag old.pending) result new
-Enters old c after_return (move.KeepsTag n) result new = Tags old c after_return (kept_by (mark.RawEnd n) c old.pending) result new
-Enters old c after_return move.EmitText result new = Says old c (ended after_return (is_bracket old.setting c) old.place) result new
-Enters old c after_return (move.Ends w) result new = Ends old after_return w result new
-Enters old c after_return move.Closes result new = Closes old after_return (meaning old.setting.syntax (encode_utf8_all old.pending.run)) result new
-Enters old c after_return move.Reconsume result new = Stops old c after_return (at_first old.setting.inside c) result new
+Enters old c after_return move.Tags result new = Tags old c after_return (with_mark mark.Tag old.pending) result new
+Enters old c after_return (move.KeepsTag n) result new = Tags old c after_return (with_character (mark.RawEnd n) c old.pending) result new
+Enters old c after_return move.EmitText result new = SaysCharacter old c (ended after_return (is_bracket old.setting c) old.place) result new
+Enters old c after_return (move.Ends w) result new = TokenEnds old after_return w result new
+Enters old c after_return move.Closes result new = ClosesReference old after_return (meaning old.setting.syntax (encode_utf8_all old.pending.run)) result new
+Enters old c after_return move.Reconsume result new = EndsTextRun old c after_return (at_first old.setting.inside c) result new
 Enters old c after_return (move.Refuses kind) result new = result ≡ Err (stop.Fault (fault_at old kind))
 
 -- a byte order mark that stands first, and a line feed directly after a CR, aren't entered
-abbrev pub is_passed : Position → ℕ → Bool
-is_passed p c = not p.started && c == byte_order_mark || p.after_return && c == line_feed
+abbrev pub passes_over : Position → ℕ → Bool
+passes_over p c = not p.started && c == byte_order_mark || p.after_return && c == line_feed
 
 -- with the byte at `at` the tag has too many
 abbrev pub is_long : Reading → Bool → Bool
@@ -236,30 +236,30 @@ is_long v known = known && nat_le (token_from v.pending.mark v.place + v.setting
 abbrev pub with_passed : Reading → Reading
 with_passed v = with_parts v v.setting (entered false v.place) v.pending v.text
 
-abbrev pub is_mark : ℕ → TokenKind
-is_mark c = if c == byte_order_mark then what.Skipped else what.Nothing
+abbrev pub kind_of_mark : ℕ → TokenKind
+kind_of_mark c = if c == byte_order_mark then what.Skipped else what.Nothing
 
 -- what a whole character does
 abbrev pub ReadsChar : Reading → ℕ → Result TokenKind Stop → Reading → Type 0
 ReadsChar old c result new =
-    MatchBool (is_passed old.place c) ((result ≡ Ok (is_mark c)) × (new ≡ with_passed old))
+    MatchBool (passes_over old.place c) ((result ≡ Ok (kind_of_mark c)) × (new ≡ with_passed old))
     (MatchBool (is_long old (is_tag_with old.setting.syntax old.setting.inside old.pending.mark (as_line_end c))) (result ≡ Err (stop.Fault (fault_at old TagTooLong)))
     (Enters old (as_line_end c) (c == carriage_return) (move_at old (as_line_end c)) result new))
 
 abbrev pub with_held : Reading → List ℕ → Reading
 with_held v held =
-    record { setting = v.setting; place = holding v.place; held = held; pending = v.pending; text = v.text; end = v.end }
+    record { setting = v.setting; place = byte_held v.place; held = held; pending = v.pending; text = v.text; end = v.end }
 
 abbrev pub ReadsAnswer : Reading → List ℕ → Utf8Step → Result TokenKind Stop → Reading → Type 0
 ReadsAnswer old held Bad result new = result ≡ Err (stop.Fault (fault_at old NotUtf8))
 ReadsAnswer old held More result new =
-    MatchBool (is_long old (is_tag old.pending.mark)) (result ≡ Err (stop.Fault (fault_at old TagTooLong))) ((result ≡ Ok what.Nothing) × (new ≡ with_held old held))
+    MatchBool (is_long old (lies_in_tag old.pending.mark)) (result ≡ Err (stop.Fault (fault_at old TagTooLong))) ((result ≡ Ok what.Nothing) × (new ≡ with_held old held))
 ReadsAnswer old held (Char c) result new =
     MatchBool (c == 0) (result ≡ Err (stop.Fault (fault_at old Nul)))
-    (MatchBool (is_long old (is_tag old.pending.mark)) (result ≡ Err (stop.Fault (fault_at old TagTooLong))) (ReadsChar old c result new))
+    (MatchBool (is_long old (lies_in_tag old.pending.mark)) (result ≡ Err (stop.Fault (fault_at old TagTooLong))) (ReadsChar old c result new))
 
 -- what a byte does
-abbrev pub Reads : Reading → ℕ → Result TokenKind Stop → Reading → Type 0
-Reads old byte result new =
+abbrev pub ReadsByte : Reading → ℕ → Result TokenKind Stop → Reading → Type 0
+ReadsByte old byte result new =
     MatchBool (nat_le old.setting.limits.page old.place.at) (result ≡ Err (stop.Fault (fault_at old PageTooLong)))
     (ReadsAnswer old (old.held ++ byte ∷ []) (answer_of (old.held ++ byte ∷ [])) result new)

@@ -8,39 +8,39 @@ use Rattle.rx_reader.specs.TagReader.{TagState}
 use Rattle.rx_tags.specs.Fronts.{is_printed, GoesBy}
 use Rattle.rx_tags.specs.TagBufs.{TagSoFar}
 use Rattle.rx_scan.specs.Entries.{with_parts, undropped}
-use Rattle.rx_scan.specs.Places.{said, fed}
-use Rattle.rx_scan.specs.Plain.{is_plain}
+use Rattle.rx_scan.specs.Places.{text_passed, fed}
+use Rattle.rx_scan.specs.Plain.{is_plain_char}
 use Rattle.rx_scan.specs.Scanner.{Reading}
 
 -- outside the root no such character is text
-abbrev pub has_text : Content → Bool
-has_text content.Outside = false
-has_text _ = true
+abbrev pub tells_text : Content → Bool
+tells_text content.Outside = false
+tells_text _ = true
 
 -- Between characters, where no token is begun, plain text may be told at once: a byte order mark is no first character
 -- here, and no line feed is dropped or belongs to a CR before it.
 pub record TellsPlain (v : Reading) : Type 0 where
   pub held : v.held ≡ []
-  pub inside : has_text v.setting.inside ≡ true
+  pub inside : tells_text v.setting.inside ≡ true
   pub undropped : v.setting.drops ≡ false
   pub started : v.place.started ≡ true
   pub on_a_line : v.place.after_return ≡ false
 
 -- This text may be told: its characters are plain, and none is past the page's limit.
-pub record IsFront (v : Reading) (front : List ℕ) : Type 0 where
+pub record MayBeTold (v : Reading) (front : List ℕ) : Type 0 where
   pub between : v.pending.mark ≡ mark.Nothing
   pub may : TellsPlain v
-  pub plain : list_all is_plain front ≡ true
+  pub plain : list_all is_plain_char front ≡ true
   pub text : IsUtf8 front
   pub page : v.place.at + length front ≤ v.setting.limits.page
 
 -- It is told.
 pub record TellsFront (old : Reading) (front : List ℕ) (new : Reading) : Type 0 where
-  pub may : IsFront old front
+  pub may : MayBeTold old front
   pub text : new.text.text ≡ old.text.text ++ chars front
   pub size : new.text.size ≡ old.text.size + length front
   pub room : old.text.room ≤ new.text.room
-  pub is : new ≡ with_parts old (undropped old.setting) (said (length front) old.place) old.pending new.text
+  pub is : new ≡ with_parts old (undropped old.setting) (text_passed (length front) old.place) old.pending new.text
 
 -- the tag in another state
 abbrev pub with_state : TagSoFar → TagState → TagSoFar

@@ -7,9 +7,9 @@ use Rattle.rx_scan.specs.declared.marks.TokenState.{TokenState}
 use Rattle.rx_scan.specs.declared.marks.TokenState.TheVariants as mark
 use Rattle.rx_scan.specs.Marks.{end_word}
 
-abbrev pub is_tag : TokenState → Bool
-is_tag mark.Tag = true
-is_tag _ = false
+abbrev pub lies_in_tag : TokenState → Bool
+lies_in_tag mark.Tag = true
+lies_in_tag _ = false
 
 -- the character ends the name of a raw element, of which the next character is given, or none where it is over
 abbrev pub ends_word : Option ℕ → ℕ → Bool

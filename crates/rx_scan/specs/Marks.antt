@@ -8,7 +8,7 @@ use Rattle.rx_grammar.specs.Shapes.{ends_name}
 use Rattle.rx_reader.specs.declared.phases.RunPhase.TheVariants as run
 use Rattle.rx_reader.specs.declared.phases.RunMove.{RunMove}
 use Rattle.rx_reader.specs.declared.phases.RunMove.TheVariants as run_moves
-use Rattle.rx_reader.specs.Tables.{is_html, run_move}
+use Rattle.rx_reader.specs.Tables.{is_html_syntax, run_move}
 use Rattle.rx_scan.specs.declared.marks.Word.{Word}
 use Rattle.rx_scan.specs.declared.marks.Word.TheVariants as word
 use Rattle.rx_scan.specs.declared.marks.CommentPhase.{CommentPhase}
@@ -59,17 +59,17 @@ less_than_stops inside = if has_less_than inside then move.Reconsume else move.R
 abbrev pub at_less_than : Syntax → Content → ℕ → Move
 at_less_than syntax inside c =
     if c == exclamation_mark then move.Continue mark.Opened else if c == question_mark then move.Continue (question syntax)
-    else if is_html syntax && not (begins_markup c) then less_than_stops inside else move.Tags
+    else if is_html_syntax syntax && not (begins_markup c) then less_than_stops inside else move.Tags
 
 -- the next character of the end tag, or none where its name is whole
 abbrev pub in_end : Option ℕ → ℕ → ℕ → Move
 in_end (Some d) n c = if lowered_char c == d then move.KeepsTag (n + 1) else move.Reconsume
 in_end None n c = if ends_name c then move.Tags else move.Reconsume
 
-abbrev pub in_run : Content → RunMove → Move
-in_run inside (run_moves.Goes p) = move.Keeps (mark.Run p)
-in_run inside run_moves.Closes = move.Closes
-in_run inside run_moves.Stops = if keeps_runs inside then move.Reconsume else move.Refuses StrictText
+abbrev pub after_run : Content → RunMove → Move
+after_run inside (run_moves.Goes p) = move.Keeps (mark.Run p)
+after_run inside run_moves.Closes = move.Closes
+after_run inside run_moves.Stops = if keeps_runs inside then move.Reconsume else move.Refuses StrictText
 
 -- in HTML `<!` and what begins nothing else is a comment
 abbrev pub in_bogus : ℕ → Move
@@ -105,11 +105,11 @@ begun_word syntax inside word.Section = if has_sections inside then move.Continu
 abbrev pub more_of_word : Syntax → Content → Word → ℕ → Move
 more_of_word syntax inside w n = if n == length (opening_text syntax w) then begun_word syntax inside w else move.Continue (mark.Opening w n)
 
-abbrev pub is_next : Syntax → Word → ℕ → ℕ → Bool
-is_next syntax w d c = opening_char syntax w c == d
+abbrev pub continues_word : Syntax → Word → ℕ → ℕ → Bool
+continues_word syntax w d c = opening_char syntax w c == d
 
 abbrev pub in_word : Syntax → Content → Word → Option ℕ → ℕ → ℕ → Move
-in_word syntax inside w (Some d) n c = if is_next syntax w d c then more_of_word syntax inside w (n + 1) else unlike syntax c
+in_word syntax inside w (Some d) n c = if continues_word syntax w d c then more_of_word syntax inside w (n + 1) else unlike syntax c
 in_word syntax inside w None n c = unlike syntax c
 
 abbrev pub doctype_letter : Syntax → ℕ
@@ -147,23 +147,23 @@ abbrev pub after_strict_dash : StrictPhase → StrictPhase
 after_strict_dash strict.Text = strict.Dash
 after_strict_dash _ = strict.Dashes
 
-abbrev pub in_strict_comment : StrictPhase → ℕ → Move
-in_strict_comment strict.Dashes c = if c == greater_than_sign then move.Ends whole.Comment else move.Refuses StrictText
-in_strict_comment p c = move.Continue (mark.StrictComment (if c == hyphen then after_strict_dash p else strict.Text))
+abbrev pub after_strict : StrictPhase → ℕ → Move
+after_strict strict.Dashes c = if c == greater_than_sign then move.Ends whole.Comment else move.Refuses StrictText
+after_strict p c = move.Continue (mark.StrictComment (if c == hyphen then after_strict_dash p else strict.Text))
 
 abbrev pub in_instruction : Bool → ℕ → Move
 in_instruction asked c = if c == greater_than_sign && asked then move.Ends whole.Comment else move.Continue (mark.Instruction (c == question_mark))
 
 -- what a character does that may be the next one of the name
-abbrev pub in_name : Syntax → Option ℕ → ℕ → ℕ → Move
-in_name syntax (Some d) n c = if cased_char syntax c == d then move.Continue (mark.Doctype (doctype.Name (n + 1))) else move.Refuses BadDoctype
-in_name syntax None n c = if is_white_space c then move.Continue (mark.Doctype doctype.Passed) else if c == greater_than_sign then move.Ends whole.Doctype else move.Refuses BadDoctype
+abbrev pub in_doctype_name : Syntax → Option ℕ → ℕ → ℕ → Move
+in_doctype_name syntax (Some d) n c = if cased_char syntax c == d then move.Continue (mark.Doctype (doctype.Name (n + 1))) else move.Refuses BadDoctype
+in_doctype_name syntax None n c = if is_white_space c then move.Continue (mark.Doctype doctype.Passed) else if c == greater_than_sign then move.Ends whole.Doctype else move.Refuses BadDoctype
 
-abbrev pub in_doctype : Syntax → DoctypePhase → ℕ → Move
-in_doctype syntax doctype.Keyword c = if is_white_space c then move.Continue (mark.Doctype doctype.Spaces) else move.Refuses BadDoctype
-in_doctype syntax doctype.Spaces c = if is_white_space c then move.Continue (mark.Doctype doctype.Spaces) else in_name syntax (slice_get (codes "html") 0) 0 c
-in_doctype syntax (doctype.Name n) c = in_name syntax (slice_get (codes "html") n) n c
-in_doctype syntax doctype.Passed c =
+abbrev pub doctype_char : Syntax → DoctypePhase → ℕ → Move
+doctype_char syntax doctype.Keyword c = if is_white_space c then move.Continue (mark.Doctype doctype.Spaces) else move.Refuses BadDoctype
+doctype_char syntax doctype.Spaces c = if is_white_space c then move.Continue (mark.Doctype doctype.Spaces) else in_doctype_name syntax (slice_get (codes "html") 0) 0 c
+doctype_char syntax (doctype.Name n) c = in_doctype_name syntax (slice_get (codes "html") n) n c
+doctype_char syntax doctype.Passed c =
     if c == greater_than_sign then move.Ends whole.Doctype else if c == left_bracket then move.Refuses BadDoctype else move.Continue (mark.Doctype doctype.Passed)
 
 abbrev pub at_bracket : Brackets → Move
@@ -175,20 +175,20 @@ abbrev pub are_two : Brackets → Bool
 are_two brackets.Two = true
 are_two _ = false
 
-abbrev pub in_section : Brackets → ℕ → Move
-in_section b c = if c == right_bracket then at_bracket b else if c == greater_than_sign && are_two b then move.Ends whole.Section else move.KeepsAfter b
+abbrev pub after_section : Brackets → ℕ → Move
+after_section b c = if c == right_bracket then at_bracket b else if c == greater_than_sign && are_two b then move.Ends whole.Section else move.KeepsAfter b
 
-abbrev pub move_of : Syntax → Content → TokenState → ℕ → Move
-move_of syntax inside mark.Nothing c = of_first (at_first inside c)
-move_of syntax inside mark.LessThan c = at_less_than syntax inside c
-move_of syntax inside (mark.RawEnd n) c = in_end (slice_get (end_word inside) n) n c
-move_of syntax inside mark.Tag c = move.Tags
-move_of syntax inside (mark.Run p) c = in_run inside (run_move p c)
-move_of syntax inside mark.Opened c = at_opened syntax inside c
-move_of syntax inside (mark.Opening w n) c = in_word syntax inside w (slice_get (opening_text syntax w) n) n c
-move_of syntax inside (mark.Comment p) c = in_comment p c
-move_of syntax inside (mark.StrictComment p) c = in_strict_comment p c
-move_of syntax inside mark.Bogus c = in_bogus c
-move_of syntax inside (mark.Instruction asked) c = in_instruction asked c
-move_of syntax inside (mark.Doctype p) c = in_doctype syntax p c
-move_of syntax inside (mark.Section b) c = in_section b c
+abbrev pub scan_move : Syntax → Content → TokenState → ℕ → Move
+scan_move syntax inside mark.Nothing c = of_first (at_first inside c)
+scan_move syntax inside mark.LessThan c = at_less_than syntax inside c
+scan_move syntax inside (mark.RawEnd n) c = in_end (slice_get (end_word inside) n) n c
+scan_move syntax inside mark.Tag c = move.Tags
+scan_move syntax inside (mark.Run p) c = after_run inside (run_move p c)
+scan_move syntax inside mark.Opened c = at_opened syntax inside c
+scan_move syntax inside (mark.Opening w n) c = in_word syntax inside w (slice_get (opening_text syntax w) n) n c
+scan_move syntax inside (mark.Comment p) c = in_comment p c
+scan_move syntax inside (mark.StrictComment p) c = after_strict p c
+scan_move syntax inside mark.Bogus c = in_bogus c
+scan_move syntax inside (mark.Instruction asked) c = in_instruction asked c
+scan_move syntax inside (mark.Doctype p) c = doctype_char syntax p c
+scan_move syntax inside (mark.Section b) c = after_section b c

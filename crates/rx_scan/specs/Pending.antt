@@ -220,5 +220,5 @@ module _ (syntax : Syntax) (inside : Content) where
   Pends p text = PendsAs p.mark p.run p.tag text
 
 -- a CDATA section with this text so far, behind which no bracket stands
-abbrev pub in_section : Pending → Chars → Pending
-in_section old run = record { mark = mark.Section brackets.None; run = run; tag = old.tag }
+abbrev pub section_pending : Pending → Chars → Pending
+section_pending old run = record { mark = mark.Section brackets.None; run = run; tag = old.tag }

@@ -2,11 +2,11 @@
 use Rattle.std.specs.Prelude.{◌+◌, ℕ, Bool, true, false, ◌&&◌}
 use Rattle.rx_scan.specs.declared.places.Position.{Position}
 
-abbrev pub at_first : Position
-at_first = record { at = 0; starts = 0; token = 0; started = false; after_return = false; two = false; last = false }
+abbrev pub page_start : Position
+page_start = record { at = 0; starts = 0; token = 0; started = false; after_return = false; two = false; last = false }
 
-abbrev pub holding : Position → Position
-holding p = record { at = p.at + 1; starts = p.starts; token = p.token; started = p.started; after_return = p.after_return; two = p.two; last = p.last }
+abbrev pub byte_held : Position → Position
+byte_held p = record { at = p.at + 1; starts = p.starts; token = p.token; started = p.started; after_return = p.after_return; two = p.two; last = p.last }
 
 abbrev pub entered : Bool → Position → Position
 entered after_return p = record { at = p.at + 1; starts = p.at + 1; token = p.token; started = true; after_return = after_return; two = p.two; last = p.last }
@@ -25,5 +25,5 @@ abbrev pub fed : ℕ → Position → Position
 fed n p = record { at = p.at + n; starts = p.at + n; token = p.token; started = true; after_return = false; two = p.two; last = p.last }
 
 -- behind so many bytes of text of which none is a `]`
-abbrev pub said : ℕ → Position → Position
-said n p = record { at = p.at + n; starts = p.at + n; token = p.token; started = true; after_return = false; two = false; last = false }
+abbrev pub text_passed : ℕ → Position → Position
+text_passed n p = record { at = p.at + n; starts = p.at + n; token = p.token; started = true; after_return = false; two = false; last = false }

@@ -8,8 +8,8 @@ is_stop c = c == 0 || c == carriage_return || c == ampersand || c == less_than_s
 
 -- a character that is text in each content that has text, whatever stands before it, but for a byte order mark that
 -- stands first, a line feed behind a CR, and one that is dropped
-abbrev pub is_plain : ℕ → Bool
-is_plain c = not (is_stop c)
+abbrev pub is_plain_char : ℕ → Bool
+is_plain_char c = not (is_stop c)
 
 -- a byte that isn't a plain character by itself
 abbrev pub ends_ascii : ℕ → Bool

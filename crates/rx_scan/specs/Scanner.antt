@@ -26,5 +26,5 @@ pub record Scanner : Type 0 where
   pub failed : Option Fault
   pub out_of_memory : Bool
 
-abbrev pub spot_of : Reading → Spot
-spot_of v = record { inside = v.setting.inside; leads = v.setting.leads }
+abbrev pub reading_spot : Reading → Spot
+reading_spot v = record { inside = v.setting.inside; leads = v.setting.leads }

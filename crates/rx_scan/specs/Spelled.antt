@@ -2,7 +2,7 @@
 use Rattle.std.specs.Prelude.{◌≡◌, ◌≢◌, ◌↔◌, ◌≤◌, ◌<◌, ◌+◌, ◌==◌, ◌&&◌, ◌||◌, not, ℕ, Bool, true, false, List, [], ◌∷◌, ◌++◌, length, take, encode_utf8_all, Result, Ok, Err, Some, None, if◌then◌else◌}
 use Rattle.std.specs.Char.{len_utf8}
 use Rattle.rx_grammar.specs.Common.{all_scalars, greater_than_sign, right_bracket, Chars, IsCharacter, BeginNone, Syntax, Token, doctype, Line, Phase, values, next_of, Item, Spelled, AllFit, is_literal, is_strict_literal, no_section_end, has_no_nul, IsPending, IsPart, Faulty, is_known_tag}
-use Rattle.rx_chars.specs.Characters.{Entry, byte_order_mark, line_feed, carriage_return, as_line_end, placed, entered}
+use Rattle.rx_chars.specs.Characters.{PlacedCharacter, byte_order_mark, as_line_end, placed, preprocessed}
 use Rattle.rx_grammar.specs.declared.contents.Content.{Content}
 use Rattle.rx_grammar.specs.declared.limits.Limits.{Limits}
 use Rattle.rx_grammar.specs.declared.faults.Fault.{Fault}
@@ -11,18 +11,19 @@ use Rattle.rx_grammar.specs.declared.faults.Kind.TheVariants as kind
 use Rattle.rx_grammar.specs.Spelling as grammar
 use Rattle.rx_grammar.specs.PageFaults as faults
 use Rattle.rx_pages.specs.PageReader.{Spot, Scanning, Scanned, token_at, scan_from}
-use Rattle.rx_scan.specs.Scanner.{Scanner, spot_of}
+use Rattle.rx_scan.specs.Scanner.{Scanner, reading_spot}
 use Rattle.rx_scan.specs.Steps.{ScanStands, Steps, Are, is_of_syntax}
 use Rattle.rx_scan.specs.declared.answers.Token as shown
 use Rattle.rx_grammar.specs.declared.stops.Stop.{Stop}
 use Rattle.rx_grammar.specs.declared.stops.Stop.TheVariants as stop
+use Rattle.rx_terms.specs.Ascii.{carriage_return, line_feed}
 
 -- The characters that are entered of these, where the next byte is at this offset: behind others, or as the page's first ones.
-abbrev pub entries_at : Bool → Bool → ℕ → List ℕ → List Entry
-entries_at true after_return at characters = entered after_return (placed at characters)
-entries_at false after_return at [] = []
-entries_at false after_return at (c ∷ characters) =
-    if c == byte_order_mark then entered false (placed (at + len_utf8 c) characters) else entered after_return (placed at (c ∷ characters))
+abbrev pub spelled_entries : Bool → Bool → ℕ → List ℕ → List PlacedCharacter
+spelled_entries true after_return at characters = preprocessed after_return (placed at characters)
+spelled_entries false after_return at [] = []
+spelled_entries false after_return at (c ∷ characters) =
+    if c == byte_order_mark then preprocessed false (placed (at + len_utf8 c) characters) else preprocessed after_return (placed at (c ∷ characters))
 
 -- all stand in this content
 abbrev pub AllInside : Content → List Item → Type 0
@@ -61,14 +62,14 @@ ends_in_return before (c ∷ characters) = ends_in_return (c == carriage_return)
 -- The bytes from this state on stand within the page's limit, and are whole characters, none of them U+0000, and a part of one. They spell these tokens in
 -- this content, no tag among them too long; and what is left of them begins one, and is too long for no tag either. The state behind them has what is left,
 -- its offset, and what is to be known of the characters and tokens before it: nothing else is open.
-pub record Spells (syntax : Syntax) (limits : Limits) (spot : Spot) (s : Scanning) (bytes : List ℕ) (scanned : Scanned) : Type 0 where
+pub record ScanSpells (syntax : Syntax) (limits : Limits) (spot : Spot) (s : Scanning) (bytes : List ℕ) (scanned : Scanned) : Type 0 where
   pub characters : List ℕ
   pub part : List ℕ
   pub are : bytes ≡ encode_utf8_all characters ++ part
   pub scalars : all_scalars characters ≡ true
   pub within : AllBefore limits.page s.at bytes
-  pub front : List Entry
-  pub read : front ++ scanned.next.run ≡ entries_at s.started s.after_return s.at characters
+  pub front : List PlacedCharacter
+  pub read : front ++ scanned.next.run ≡ spelled_entries s.started s.after_return s.at characters
   pub no_nul : has_no_nul (front ++ scanned.next.run) ≡ true
   pub spelled : Spelled syntax front (next_of (values scanned.next.run) None) scanned.items
   pub inside_is : AllInside spot.inside scanned.items
@@ -86,7 +87,7 @@ pub record Spells (syntax : Syntax) (limits : Limits) (spot : Spot) (s : Scannin
   pub last_is : scanned.next.last ≡ (brackets_behind scanned.items s.two s.last).1
 
 -- nothing is unfinished
-pub record IsBetween (s : Scanning) : Type 0 where
+pub record TokensAreWhole (s : Scanning) : Type 0 where
   pub run : s.run ≡ []
   pub held : s.held ≡ []
 
@@ -96,15 +97,15 @@ pub data Left (syntax : Syntax) (inside : Content) (unfinished : Chars) (c : ℕ
   is_over : (token : Token) → grammar.Spells syntax inside unfinished (Some c) token → Left syntax inside unfinished c []
 
 -- a character that isn't entered there: a byte order mark at the front, or an LF after a CR
-abbrev pub is_passed : Scanning → ℕ → Bool
-is_passed next c = not next.started && c == byte_order_mark || next.after_return && c == line_feed
+abbrev pub is_not_entered : Scanning → ℕ → Bool
+is_not_entered next c = not next.started && c == byte_order_mark || next.after_return && c == line_feed
 
 -- The byte stands before the page's limit and is the last one of a character that is entered.
-pub record Enters (limits : Limits) (next : Scanning) (byte c : ℕ) : Type 0 where
+pub record EntersCharacter (limits : Limits) (next : Scanning) (byte c : ℕ) : Type 0 where
   pub page : next.at < limits.page
   pub is : IsCharacter (next.held ++ byte ∷ []) c
   pub no_nul : c ≢ 0
-  pub enters : is_passed next c ≡ false
+  pub enters : is_not_entered next c ≡ false
 
 -- what is known to be a tag, with this character at the latest, isn't too long through it
 abbrev pub FitsWith : Syntax → Limits → Spot → Scanning → ℕ → Type 0
@@ -116,29 +117,29 @@ IsNoToken syntax inside text = (token : Token) → grammar.Spells syntax inside 
 
 -- The byte behind this state decides a fault of this kind, whatever stands before and whichever elements are open: by a limit, as no character or as
 -- U+0000, or by the grammar's rows. That `]]>` ends text of XHTML, and that a document type may not come, the tokens before tell. One kind at most is right.
-pub data Refuses (syntax : Syntax) (limits : Limits) (spot : Spot) (next : Scanning) (byte : ℕ) : Kind → Type 0 where
-  page_too_long : limits.page ≤ next.at → Refuses syntax limits spot next byte kind.PageTooLong
-  not_utf8 : next.at < limits.page → BeginNone (next.held ++ byte ∷ []) → Refuses syntax limits spot next byte kind.NotUtf8
-  nul : next.at < limits.page → IsCharacter (next.held ++ byte ∷ []) 0 → Refuses syntax limits spot next byte kind.Nul
+pub data RefusesByte (syntax : Syntax) (limits : Limits) (spot : Spot) (next : Scanning) (byte : ℕ) : Kind → Type 0 where
+  page_too_long : limits.page ≤ next.at → RefusesByte syntax limits spot next byte kind.PageTooLong
+  not_utf8 : next.at < limits.page → BeginNone (next.held ++ byte ∷ []) → RefusesByte syntax limits spot next byte kind.NotUtf8
+  nul : next.at < limits.page → IsCharacter (next.held ++ byte ∷ []) 0 → RefusesByte syntax limits spot next byte kind.Nul
   -- where the run is known to be a tag before it
   tag_too_long : next.at < limits.page → is_known_tag syntax spot.inside (values next.run) ≡ true → token_at next + limits.tag ≤ next.at
-      → faults.GoesOn (next.held ++ byte ∷ []) → Refuses syntax limits spot next byte kind.TagTooLong
+      → faults.GoesOn (next.held ++ byte ∷ []) → RefusesByte syntax limits spot next byte kind.TagTooLong
   -- the character at which it is known
-  known_too_long : (c : ℕ) → Enters limits next byte c → is_known_tag syntax spot.inside (values next.run) ≡ false
+  known_too_long : (c : ℕ) → EntersCharacter limits next byte c → is_known_tag syntax spot.inside (values next.run) ≡ false
       → is_known_tag syntax spot.inside (values next.run ++ as_line_end c ∷ []) ≡ true → token_at next + limits.tag ≤ next.at
-      → Refuses syntax limits spot next byte kind.TagTooLong
+      → RefusesByte syntax limits spot next byte kind.TagTooLong
   -- it completes no token
-  decided : {found : Kind} (c : ℕ) (run : Chars) → Enters limits next byte c → FitsWith syntax limits spot next c
+  decided : {found : Kind} (c : ℕ) (run : Chars) → EntersCharacter limits next byte c → FitsWith syntax limits spot next c
       → Left syntax spot.inside (values next.run) (as_line_end c) run → IsNoToken syntax spot.inside (run ++ as_line_end c ∷ [])
       → ((depth : ℕ) (items : List Item) (line : Line) (phase : Phase) → Faulty syntax depth items line phase spot.inside found (run ++ as_line_end c ∷ []))
-      → Refuses syntax limits spot next byte found
-  section_end : (c : ℕ) (token : Token) → Enters limits next byte c → FitsWith syntax limits spot next c
+      → RefusesByte syntax limits spot next byte found
+  section_end : (c : ℕ) (token : Token) → EntersCharacter limits next byte c → FitsWith syntax limits spot next c
       → grammar.Spells syntax spot.inside (values next.run ++ as_line_end c ∷ []) None token → is_strict_literal greater_than_sign spot.inside token ≡ true
       → next.two ≡ true
-      → Refuses syntax limits spot next byte kind.StrictText
-  late_doctype : (c : ℕ) → Enters limits next byte c → FitsWith syntax limits spot next c
+      → RefusesByte syntax limits spot next byte kind.StrictText
+  late_doctype : (c : ℕ) → EntersCharacter limits next byte c → FitsWith syntax limits spot next c
       → grammar.Spells syntax spot.inside (values next.run ++ as_line_end c ∷ []) None doctype → spot.leads ≡ false
-      → Refuses syntax limits spot next byte kind.BadDoctype
+      → RefusesByte syntax limits spot next byte kind.BadDoctype
 
 -- The first of the bytes that decides a fault, with what the bytes before it spell.
 pub record FirstFault (syntax : Syntax) (limits : Limits) (spot : Spot) (s : Scanning) (bytes : List ℕ) (fault : Fault) : Type 0 where
@@ -147,40 +148,40 @@ pub record FirstFault (syntax : Syntax) (limits : Limits) (spot : Spot) (s : Sca
   pub rest : List ℕ
   pub are : bytes ≡ front ++ byte ∷ rest
   pub scanned : Scanned
-  pub spells : Spells syntax limits spot s front scanned
-  pub refuses : Refuses syntax limits spot scanned.next byte fault.kind
+  pub spells : ScanSpells syntax limits spot s front scanned
+  pub refuses : RefusesByte syntax limits spot scanned.next byte fault.kind
   pub at_is : fault.at ≡ s.at + length front
   pub token_is : fault.token ≡ token_at scanned.next
 
 -- law: and they are refused with exactly their first fault
 abbrev pub RefusesWhatIsFaulty : Type 0
 RefusesWhatIsFaulty = (syntax : Syntax) (limits : Limits) (spot : Spot) (s : Scanning) (bytes : List ℕ) (fault : Fault)
-    → is_of_syntax syntax spot.inside ≡ true → IsBetween s
+    → is_of_syntax syntax spot.inside ≡ true → TokensAreWhole s
     → (scan_from syntax limits spot s bytes ≡ Err fault) ↔ FirstFault syntax limits spot s bytes fault
 
 -- A step's answer, where these bytes were taken since nothing was unfinished: its tokens are those that they spell; or its fault is theirs.
 pub record StepSpells (v : Scanner) (first s : Scanning) (before piece : List ℕ) (n : ℕ) (t : shown.Token) (new : Scanner) : Type 0 where
   pub scanned : Scanned
-  pub spells : Spells v.reading.setting.syntax v.reading.setting.limits (spot_of v.reading) first (before ++ take n piece) scanned
+  pub spells : ScanSpells v.reading.setting.syntax v.reading.setting.limits (reading_spot v.reading) first (before ++ take n piece) scanned
   pub are : Are v.reading.setting.drops t s (take n piece) scanned.items
   pub stands : ScanStands new scanned.next
 
 abbrev pub StepAnswers : Scanner → Scanning → Scanning → List ℕ → List ℕ → Result (ℕ × shown.Token) Stop → Scanner → Type 0
 StepAnswers v first s before piece (Ok r) new = StepSpells v first s before piece r.0 r.1 new
 StepAnswers v first s before piece (Err (stop.Fault fault)) new =
-    FirstFault v.reading.setting.syntax v.reading.setting.limits (spot_of v.reading) first (before ++ piece) fault
+    FirstFault v.reading.setting.syntax v.reading.setting.limits (reading_spot v.reading) first (before ++ piece) fault
 StepAnswers v first s before piece (Err stop.NoMemory) new = Unit {0}
 
 -- law: that holds of each step
 abbrev pub StepsSpell : Type 0
 StepsSpell =
     (v new : Scanner) (first s : Scanning) (before piece : List ℕ) (result : Result (ℕ × shown.Token) Stop)
-    → is_of_syntax v.reading.setting.syntax v.reading.setting.inside ≡ true → IsBetween first
-    → scan_from v.reading.setting.syntax v.reading.setting.limits (spot_of v.reading) first before ≡ Ok (record { next = s; items = [] })
+    → is_of_syntax v.reading.setting.syntax v.reading.setting.inside ≡ true → TokensAreWhole first
+    → scan_from v.reading.setting.syntax v.reading.setting.limits (reading_spot v.reading) first before ≡ Ok (record { next = s; items = [] })
     → Steps v s piece result new → StepAnswers v first s before piece result new
 
 -- law: from where nothing is unfinished, exactly what is spelled is scanned
 abbrev pub ScansWhatIsSpelled : Type 0
 ScansWhatIsSpelled = (syntax : Syntax) (limits : Limits) (spot : Spot) (s : Scanning) (bytes : List ℕ) (scanned : Scanned)
-    → is_of_syntax syntax spot.inside ≡ true → IsBetween s
-    → (scan_from syntax limits spot s bytes ≡ Ok scanned) ↔ Spells syntax limits spot s bytes scanned
+    → is_of_syntax syntax spot.inside ≡ true → TokensAreWhole s
+    → (scan_from syntax limits spot s bytes ≡ Ok scanned) ↔ ScanSpells syntax limits spot s bytes scanned

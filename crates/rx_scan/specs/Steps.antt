@@ -21,7 +21,7 @@ use Rattle.rx_scan.specs.declared.answers.Token.TheVariants as token
 use Rattle.rx_scan.specs.declared.marks.TokenState.TheVariants as mark
 use Rattle.rx_scan.specs.declared.places.Setting.{Setting}
 use Rattle.rx_scan.specs.Pending.{Pends}
-use Rattle.rx_scan.specs.Scanner.{Reading, Scanner, spot_of}
+use Rattle.rx_scan.specs.Scanner.{Reading, Scanner, reading_spot}
 use Rattle.rx_scan.specs.Entries.{IsNoMemory, token_from, undropped}
 
 -- The reading stands for the state: the same place and bytes, and the mark says what the characters since the last token are.
@@ -92,13 +92,13 @@ pub record IsTag (the_tag : Tag) (first last : ℕ) (items : List Item) : Type 0
   pub last_is : item.last ≡ last
 
 -- what the answer to some bytes tells of their tokens
-abbrev pub Tells : Bool → TokenKind → Scanning → List ℕ → List Item → Reading → Type 0
-Tells drops what.Nothing s bytes items new = items ≡ []
-Tells drops what.Text s bytes items new = (texts_of items ≡ Some new.text.text) × (new.text.text ≢ []) × (keeps_first drops items ≡ true)
-Tells drops what.Section s bytes items new = IsOne (section new.pending.run) items × (new.pending.run ≢ [])
-Tells drops what.Skipped s bytes items new = Skips drops s bytes items
-Tells drops what.Doctype s bytes items new = IsOne doctype items
-Tells drops what.Tag s bytes items new =
+abbrev pub TellsTokens : Bool → TokenKind → Scanning → List ℕ → List Item → Reading → Type 0
+TellsTokens drops what.Nothing s bytes items new = items ≡ []
+TellsTokens drops what.Text s bytes items new = (texts_of items ≡ Some new.text.text) × (new.text.text ≢ []) × (keeps_first drops items ≡ true)
+TellsTokens drops what.Section s bytes items new = IsOne (section new.pending.run) items × (new.pending.run ≢ [])
+TellsTokens drops what.Skipped s bytes items new = Skips drops s bytes items
+TellsTokens drops what.Doctype s bytes items new = IsOne doctype items
+TellsTokens drops what.Tag s bytes items new =
     IsTag (parts_of new.pending.tag.state) new.place.token new.end items × (is_last new.pending.tag.state.phase ≡ true) × (new.place.at ≡ new.end + 1)
     × (new.pending.mark ≡ mark.Nothing)
 
@@ -114,9 +114,9 @@ abbrev pub is_nothing : TokenKind → Bool
 is_nothing what.Nothing = true
 is_nothing _ = false
 
-abbrev pub is_skipped : TokenKind → Bool
-is_skipped what.Skipped = true
-is_skipped _ = false
+abbrev pub skips_token : TokenKind → Bool
+skips_token what.Skipped = true
+skips_token _ = false
 
 -- after a start tag or a document type no document type may come
 abbrev pub still_leads : TokenKind → Reading → Bool
@@ -133,10 +133,10 @@ setting_after answer v setting items =
 pub record Took (old : Reading) (s : Scanning) (piece : List ℕ) (n : ℕ) (answer : TokenKind) (new : Reading) : Type 0 where
   pub fits : n ≤ length piece
   pub scanned : Scanned
-  pub read : scan_from old.setting.syntax old.setting.limits (spot_of old) s (take n piece) ≡ Ok scanned
+  pub read : scan_from old.setting.syntax old.setting.limits (reading_spot old) s (take n piece) ≡ Ok scanned
   pub reads_as : ReadsAs new scanned.next
-  pub tells : Tells old.setting.drops answer s (take n piece) scanned.items new
-  pub mark : MarkAlone (is_skipped answer) s (take n piece) scanned.items
+  pub tells : TellsTokens old.setting.drops answer s (take n piece) scanned.items new
+  pub mark : MarkAlone (skips_token answer) s (take n piece) scanned.items
   pub setting : new.setting ≡ setting_after answer new old.setting scanned.items
   pub all : is_nothing answer ≡ true → n ≡ length piece
   pub some : is_nothing answer ≡ false → 0 < n
@@ -146,12 +146,12 @@ pub record Faults (old : Reading) (s : Scanning) (piece : List ℕ) (fault : Fau
   pub n : ℕ
   pub byte : ℕ
   pub next : Scanning
-  pub read : scan_from old.setting.syntax old.setting.limits (spot_of old) s (take n piece) ≡ Ok (record { next = next; items = [] })
+  pub read : scan_from old.setting.syntax old.setting.limits (reading_spot old) s (take n piece) ≡ Ok (record { next = next; items = [] })
   pub unmarked : (rest : List ℕ) → HasMark s (take n piece) rest → ⊥
   pub here : slice_get piece n ≡ Some byte
-  pub decides : read_byte old.setting.syntax old.setting.limits (spot_of old) byte next ≡ Err fault.kind
+  pub decides : read_byte old.setting.syntax old.setting.limits (reading_spot old) byte next ≡ Err fault.kind
   pub is : fault ≡ fault_in next fault.kind
-  pub first : scan_from old.setting.syntax old.setting.limits (spot_of old) s piece ≡ Err fault
+  pub first : scan_from old.setting.syntax old.setting.limits (reading_spot old) s piece ≡ Err fault
 
 abbrev pub Runs : Reading → Scanning → List ℕ → Result (ℕ × TokenKind) Stop → Reading → Type 0
 Runs old s piece (Ok (n, answer)) new = Took old s piece n answer new
@@ -267,9 +267,9 @@ Are drops (token.Text text) s bytes items = (texts_of items ≡ Some (chars text
 Are drops token.Doctype s bytes items = IsOne doctype items
 Are drops token.Skipped s bytes items = Skips drops s bytes items
 
-abbrev pub is_more : shown.Token → Bool
-is_more token.More = true
-is_more _ = false
+abbrev pub wants_more : shown.Token → Bool
+wants_more token.More = true
+wants_more _ = false
 
 abbrev pub shows_skipped : shown.Token → Bool
 shows_skipped token.Skipped = true
@@ -297,14 +297,14 @@ IsLast _ at = Unit {0}
 pub record Stepped (old : Scanner) (s : Scanning) (piece : List ℕ) (n : ℕ) (t : shown.Token) (new : Scanner) : Type 0 where
   pub fits : n ≤ length piece
   pub scanned : Scanned
-  pub read : scan_from old.reading.setting.syntax old.reading.setting.limits (spot_of old.reading) s (take n piece) ≡ Ok scanned
+  pub read : scan_from old.reading.setting.syntax old.reading.setting.limits (reading_spot old.reading) s (take n piece) ≡ Ok scanned
   pub stands : ScanStands new scanned.next
   pub are : Are old.reading.setting.drops t s (take n piece) scanned.items
   pub mark : MarkAlone (shows_skipped t) s (take n piece) scanned.items
   pub last : IsLast t scanned.next.at
   pub setting : new.reading.setting ≡ setting_behind t old.reading.setting scanned.items
-  pub all : is_more t ≡ true → n ≡ length piece
-  pub some : is_more t ≡ false → 0 < n
+  pub all : wants_more t ≡ true → n ≡ length piece
+  pub some : wants_more t ≡ false → 0 < n
 
 abbrev pub Steps : Scanner → Scanning → List ℕ → Result (ℕ × shown.Token) Stop → Scanner → Type 0
 Steps old s piece (Ok r) new = Stepped old s piece r.0 r.1 new
@@ -313,17 +313,17 @@ Steps old s piece (Err stop.NoMemory) new = Unit {0}
 
 -- Whatever it stands for: a step answers only where neither a fault nor want of memory was answered; a fault comes again, and want of memory. The
 -- bytes taken are then those before the byte that decides the fault.
-pub record Answered (v : Scanner) (t : shown.Token) : Type 0 where
+pub record StepAnswered (v : Scanner) (t : shown.Token) : Type 0 where
   pub unfailed : v.failed ≡ None
   pub unspent : v.out_of_memory ≡ false
   pub stepped : v.stepped ≡ true
   pub shows : Shows v.what v.reading t
 
-abbrev pub Keeps : Scanner → List ℕ → Result (ℕ × shown.Token) Stop → Scanner → Type 0
-Keeps old piece (Ok r) new = (old.failed ≡ None) × (old.out_of_memory ≡ false) × Answered new r.1 × TakesSome piece r.0 (is_more r.1)
-Keeps old piece (Err (stop.Fault fault)) new =
+abbrev pub KeepsStop : Scanner → List ℕ → Result (ℕ × shown.Token) Stop → Scanner → Type 0
+KeepsStop old piece (Ok r) new = (old.failed ≡ None) × (old.out_of_memory ≡ false) × StepAnswered new r.1 × TakesSome piece r.0 (wants_more r.1)
+KeepsStop old piece (Err (stop.Fault fault)) new =
     (old.out_of_memory ≡ false) × ((old.failed ≡ None) ⊎ (old.failed ≡ Some fault)) × (new.failed ≡ Some fault) × (new.out_of_memory ≡ false) × (new.what ≡ what.Nothing) × (new.stepped ≡ true) × (fault.at ≡ new.reading.place.at)
-Keeps old piece (Err stop.NoMemory) new = ((old.out_of_memory ≡ true) ⊎ (old.failed ≡ None)) × (new.out_of_memory ≡ true) × (new.what ≡ what.Nothing) × (new.stepped ≡ true)
+KeepsStop old piece (Err stop.NoMemory) new = ((old.out_of_memory ≡ true) ⊎ (old.failed ≡ None)) × (new.out_of_memory ≡ true) × (new.what ≡ what.Nothing) × (new.stepped ≡ true)
 
 -- the same of the step within
 abbrev pub KeepsOn : Scanner → List ℕ → Result ℕ Stop → Scanner → Type 0
@@ -350,8 +350,8 @@ is_of_syntax Xhtml _ = false
 abbrev pub may_enter : Scanner → Bool
 may_enter v = is_tag v.what || not v.stepped
 
-abbrev pub inside_of : Content → Bool → Scanner → Scanner
-inside_of inside drops v =
+abbrev pub moved_inside : Content → Bool → Scanner → Scanner
+moved_inside inside drops v =
     record {
       reading = record {
         setting = record { syntax = v.reading.setting.syntax; limits = v.reading.setting.limits; inside = inside; leads = v.reading.setting.leads; drops = drops };
@@ -368,16 +368,16 @@ inside_of inside drops v =
     }
 
 -- no token is unfinished
-pub record IsWhole (s : Scanning) : Type 0 where
+pub record ScanIsWhole (s : Scanning) : Type 0 where
   pub run : s.run ≡ []
   pub held : s.held ≡ []
 
 -- The end of the page: it is whole, or the fault, which comes again.
 abbrev pub Finishes : Scanner → Result (Unit {0}) Stop → Scanner → Type 0
-Finishes old (Ok done) new = (old.failed ≡ None) × (old.out_of_memory ≡ false) × (new ≡ old) × ((s : Scanning) → ScanStands old s → IsWhole s)
+Finishes old (Ok done) new = (old.failed ≡ None) × (old.out_of_memory ≡ false) × (new ≡ old) × ((s : Scanning) → ScanStands old s → ScanIsWhole s)
 Finishes old (Err (stop.Fault fault)) new =
     (old.out_of_memory ≡ false) × (new.failed ≡ Some fault) × (new.out_of_memory ≡ false) × (new.reading ≡ old.reading) × (new.what ≡ old.what) × (new.stepped ≡ old.stepped)
-    × ((old.failed ≡ Some fault) ⊎ ((old.failed ≡ None) × ((s : Scanning) → ScanStands old s → (fault ≡ fault_in s Unended) × (IsWhole s → ⊥))))
+    × ((old.failed ≡ Some fault) ⊎ ((old.failed ≡ None) × ((s : Scanning) → ScanStands old s → (fault ≡ fault_in s Unended) × (ScanIsWhole s → ⊥))))
 Finishes old (Err stop.NoMemory) new = (old.out_of_memory ≡ true) × (new ≡ old)
 
 -- the tag that the last step answered

@@ -10,7 +10,7 @@ use Rattle.rx_scan.specs.declared.marks.TokenState.TheVariants as mark
 use Rattle.rx_scan.specs.Entries.{TextGains, with_parts, undropped}
 use Rattle.rx_scan.specs.Fronts.{TellsPlain, TellsFront}
 use Rattle.rx_scan.specs.Pending.{run_on}
-use Rattle.rx_scan.specs.Places.{said}
+use Rattle.rx_scan.specs.Places.{text_passed}
 use Rattle.rx_scan.specs.Scanner.{Reading}
 
 -- the usual reference at the front, if one stands there whole: its character, and how many bytes it has
@@ -53,7 +53,7 @@ pub record TellsReference (old : Reading) (front : List ℕ) (new : Reading) : T
   pub c : ℕ
   pub reference : IsReference old.setting.syntax c front
   pub text : TextGains old.text new.text c
-  pub is : new ≡ with_parts old (undropped old.setting) (said (length front) old.place) old.pending new.text
+  pub is : new ≡ with_parts old (undropped old.setting) (text_passed (length front) old.place) old.pending new.text
 
 -- A CR and an LF stand at the front.
 pub record BeginsLineEnd (bytes : List ℕ) : Type 0 where
@@ -67,7 +67,7 @@ pub record TellsLineEnd (old : Reading) (front : List ℕ) (new : Reading) : Typ
   pub page : old.place.at + 2 ≤ old.setting.limits.page
   pub are : front ≡ carriage_return ∷ line_feed ∷ []
   pub text : TextGains old.text new.text line_feed
-  pub is : new ≡ with_parts old (undropped old.setting) (said 2 old.place) old.pending new.text
+  pub is : new ≡ with_parts old (undropped old.setting) (text_passed 2 old.place) old.pending new.text
 
 -- plain text is told, a reference, or a line end
 pub data TellsOne (old : Reading) (front : List ℕ) (new : Reading) : Type 0 where

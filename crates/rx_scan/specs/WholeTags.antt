@@ -4,7 +4,7 @@ use Rattle.rx_grammar.specs.Common.{less_than_sign, greater_than_sign, has_marku
 use Rattle.rx_tags.specs.Lists.{ClosesAt}
 use Rattle.rx_scan.specs.declared.answers.TokenKind.TheVariants as what
 use Rattle.rx_scan.specs.declared.marks.TokenState.TheVariants as mark
-use Rattle.rx_scan.specs.Entries.{Tags, marked, with_begun}
+use Rattle.rx_scan.specs.Entries.{Tags, with_begun, with_mark}
 use Rattle.rx_scan.specs.Openings.{OpensFront}
 use Rattle.rx_scan.specs.Scanner.{Reading}
 
@@ -18,7 +18,7 @@ pub record ReadsOpened (old : Reading) (bytes : List ℕ) (n : ℕ) (new : Readi
   pub front : OpensFront old (take at bytes) before
   pub page : before.place.at < before.setting.limits.page
   pub tag : before.place.at < before.place.token + before.setting.limits.tag
-  pub ends : Tags before greater_than_sign false (marked mark.Tag before.pending) (Ok what.Tag) new
+  pub ends : Tags before greater_than_sign false (with_mark mark.Tag before.pending) (Ok what.Tag) new
 
 -- Where no token is begun, `<` begins one, and these bytes follow it.
 pub record ReadsBehind (old : Reading) (bytes : List ℕ) (n : ℕ) (new : Reading) : Type 0 where

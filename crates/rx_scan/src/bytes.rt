@@ -17,7 +17,7 @@ use rx_grammar::Kind;
 use rx_tags::{Stop, is_letter};
 
 fn is_passed(place: Position, c: char) -> bool
-    ensures { result ≡ entries.is_passed place c }
+    ensures { result ≡ entries.passes_over place c }
 {
     !place.started && c == '\u{FEFF}' || place.after_return && c == '\n'
 }
@@ -29,7 +29,7 @@ fn as_line_end(c: char) -> char
 }
 
 fn is_mark(c: char) -> TokenKind
-    ensures { result ≡ entries.is_mark c }
+    ensures { result ≡ entries.kind_of_mark c }
 {
     if c == '\u{FEFF}' {
         TokenKind::Skipped
@@ -210,7 +210,7 @@ impl Reader {
     /// of tags, and are told first.
     pub(crate) fn read(&mut self, byte: u8) -> Result<TokenKind, Stop>
         requires { MayStep self.old.pending.tag }
-        ensures reads { entries.Reads self.old byte result self.new }
+        ensures reads { entries.ReadsByte self.old byte result self.new }
         ensures between { self.old.pending.mark ≡ TokenState.Nothing → entries.Between self.old result self.new }
         ensures ready { entries.IsReady self.old result self.new }
     {

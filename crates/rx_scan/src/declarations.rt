@@ -168,7 +168,7 @@ pub(crate) fn in_comment(phase: CommentPhase, c: char) -> Move
 
 /// In a comment of XHTML, which has no `--` but at its end.
 pub(crate) fn in_strict_comment(phase: StrictPhase, c: char) -> Move
-    ensures { result ≡ marks.in_strict_comment phase c }
+    ensures { result ≡ marks.after_strict phase c }
 {
     match (phase, c) {
         (StrictPhase::Dashes, '>') => Move::Ends(Whole::Comment),
@@ -192,7 +192,7 @@ pub(crate) fn in_instruction(asked: bool, c: char) -> Move
 
 /// In a CDATA section.
 pub(crate) fn in_section(brackets: Brackets, c: char) -> Move
-    ensures { result ≡ marks.in_section brackets c }
+    ensures { result ≡ marks.after_section brackets c }
 {
     match (brackets, c) {
         (Brackets::None, ']') => Move::Continue(TokenState::Section(Brackets::One)),

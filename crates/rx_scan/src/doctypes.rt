@@ -12,7 +12,7 @@ const NAME: &[u8] = b"html";
 
 // Where the next character of the name is to stand, or its end.
 fn in_name(syntax: Syntax, count: usize, c: char) -> Move
-    ensures { result ≡ marks.in_name syntax (slice_get (codes "html") count) count c }
+    ensures { result ≡ marks.in_doctype_name syntax (slice_get (codes "html") count) count c }
 {
     match char_at(NAME, count) {
         Some(next) if cased(syntax, c) == next => {
@@ -26,7 +26,7 @@ fn in_name(syntax: Syntax, count: usize, c: char) -> Move
 
 /// In the document type. What stands behind its name is passed over, but for `[`.
 pub(crate) fn in_doctype(syntax: Syntax, phase: DoctypePhase, c: char) -> Move
-    ensures { result ≡ marks.in_doctype syntax phase c }
+    ensures { result ≡ marks.doctype_char syntax phase c }
 {
     match phase {
         DoctypePhase::Keyword if is_white_space(c) => Move::Continue(TokenState::Doctype(

@@ -13,7 +13,7 @@ impl Reader {
     pub(crate) fn finish(&mut self, after_return: bool, whole: Whole) -> Result<TokenKind, Stop>
         requires may_step { MayStep self.old.pending.tag }
         requires room { self.old.place.at + 1 < 2 ^ 64 }
-        ensures does { entries.Ends self.old after_return whole result self.new }
+        ensures does { entries.TokenEnds self.old after_return whole result self.new }
         ensures ready { entries.IsReady self.old result self.new }
     {
         match whole {

@@ -1,8 +1,8 @@
 //! Plain text at the front of some bytes, and characters of a tag, which are taken at once.
 ghost use Rattle.std.specs.Prelude.{◌≡◌, ◌+◌, ◌<◌, ◌≤◌, ◌^◌, true, ◌==◌, MatchBool, length, take};
 ghost use Rattle.rx_tags.specs.TagBufs.{MayStep};
-ghost use Rattle.rx_scan.specs.Fronts.{FeedsFront, IsFront, TellsFront, TellsPlain, has_text};
-ghost use Rattle.rx_scan.specs.Openings.{OpensFront, OpensTag, TakesFront};
+ghost use Rattle.rx_scan.specs.Fronts.{FeedsFront, MayBeTold, TellsFront, TellsPlain, tells_text};
+ghost use Rattle.rx_scan.specs.Openings.{OpensFront, OpensTag, ReadsFront};
 ghost use Rattle.rx_scan.specs.WholeReferences.{TellsText};
 ghost use Rattle.rx_scan.specs.declared.places.Setting.{Setting};
 
@@ -15,7 +15,7 @@ use rx_grammar::Content;
 
 // Outside the root white space alone is text.
 fn has_text(inside: Content) -> bool
-    ensures { result ≡ has_text inside }
+    ensures { result ≡ tells_text inside }
 {
     inside != Content::Outside
 }
@@ -61,7 +61,7 @@ impl Reader {
         ensures fits { result ≤ length bytes.now }
         ensures size { self.new.text.size + 4 ≤ ROOM }
         ensures room { ROOM ≤ self.new.text.room }
-        ensures takes { MatchBool (result == 0) (self.new ≡ self.old) (TakesFront self.old (take result bytes.now) self.new) }
+        ensures takes { MatchBool (result == 0) (self.new ≡ self.old) (ReadsFront self.old (take result bytes.now) self.new) }
     {
         match self.pending.mark() {
             TokenState::Nothing => self.tell_front(bytes),
@@ -159,7 +159,7 @@ impl Reader {
         requires size { self.now.text.size + 4 ≤ ROOM }
         ensures front { result.now ≡ take (length result.now) bytes.now }
         ensures room { (self.now.text.size + length result.now) + 4 ≤ ROOM }
-        ensures may { 0 < length result.now → IsFront self.now result.now }
+        ensures may { 0 < length result.now → MayBeTold self.now result.now }
         ensures place { 0 < length result.now → self.now.place.at + length result.now < 2 ^ 64 }
     {
         if !self.tells_plain() {

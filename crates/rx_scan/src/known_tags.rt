@@ -12,7 +12,7 @@ use rx_tags::{begins_tag, ends_name};
 
 /// Whether they are known to begin a tag.
 pub fn is_tag(mark: TokenState) -> bool
-    ensures { result ≡ known.is_tag mark }
+    ensures { result ≡ known.lies_in_tag mark }
 {
     mark == TokenState::Tag
 }

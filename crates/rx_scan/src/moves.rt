@@ -21,7 +21,7 @@ use rx_tags::{is_letter, is_white_space};
 /// begins so, `BadTag`, `BadDoctype` and `StrictText` where one that is begun can't go on. What depends on tokens before
 /// it (`]]>` in text of XHTML, a second document type) is the caller's.
 pub fn move_of(syntax: Syntax, inside: Content, mark: TokenState, c: char) -> Move
-    ensures { result ≡ marks.move_of syntax inside mark c }
+    ensures { result ≡ marks.scan_move syntax inside mark c }
 {
     match mark {
         TokenState::Nothing => at_nothing(inside, c),

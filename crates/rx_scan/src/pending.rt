@@ -4,7 +4,7 @@ ghost use Rattle.rx_reader.specs.Tables.{is_last};
 ghost use Rattle.rx_reader.specs.TagReader.{parts_of, is_closing};
 ghost use Rattle.rx_tags.specs.Seen.{tag_seen};
 ghost use Rattle.rx_tags.specs.TagBufs.{no_tag, MayStep, StepGives, TakesMore, TakesWhole};
-ghost use Rattle.rx_scan.specs.Pending.{bracket_text, in_section};
+ghost use Rattle.rx_scan.specs.Pending.{bracket_text, section_pending};
 
 use crate::buffers::Buffer;
 use crate::marks::{Brackets, TokenState};
@@ -93,7 +93,7 @@ impl Unfinished {
 
     /// The CDATA section goes on with a character behind brackets that are text.
     pub(crate) fn keep_after(&mut self, brackets: Brackets, c: char) -> Result<(), NoMemory>
-        ensures { OnOk result (self.new ≡ in_section self.old ((self.old.run ++ bracket_text brackets) ++ c ∷ [])) }
+        ensures { OnOk result (self.new ≡ section_pending self.old ((self.old.run ++ bracket_text brackets) ++ c ∷ [])) }
     {
         self.keep_brackets(brackets)?;
         self.keep(TokenState::Section(Brackets::None), c)

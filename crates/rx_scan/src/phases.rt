@@ -29,7 +29,7 @@ fn keeps_runs(inside: Content) -> bool
 
 /// Behind `&` and what a reference may begin with.
 pub(crate) fn in_run(inside: Content, phase: RunPhase, c: char) -> Move
-    ensures { result ≡ marks.in_run inside (tables.run_move phase c) }
+    ensures { result ≡ marks.after_run inside (tables.run_move phase c) }
 {
     match run_move(phase, c) {
         RunMove::Goes(next) => Move::Keeps(TokenState::Run(next)),

@@ -40,7 +40,7 @@ pub(crate) struct Setting {
 impl Position {
     /// Before the first byte.
     pub(crate) fn first() -> Position
-        ensures { result ≡ places.at_first }
+        ensures { result ≡ places.page_start }
     {
         Position {
             at: 0,
@@ -56,7 +56,7 @@ impl Position {
     /// Behind a byte of a character that isn't whole.
     pub(crate) fn holding(self) -> Position
         requires { self.at + 1 < 2 ^ 64 }
-        ensures { result ≡ places.holding self }
+        ensures { result ≡ places.byte_held self }
     {
         Position {
             at: self.at + 1,
@@ -126,7 +126,7 @@ impl Position {
     /// Behind so many bytes of whole characters of text of which none is a CR or a `]`.
     pub(crate) fn said(self, count: u64) -> Position
         requires { self.at + count < 2 ^ 64 }
-        ensures { result ≡ places.said count self }
+        ensures { result ≡ places.text_passed count self }
     {
         Position {
             at: self.at + count,

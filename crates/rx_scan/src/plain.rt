@@ -2,7 +2,7 @@
 ghost use Rattle.std.specs.Prelude.{◌≡◌, ◌<◌, ◌≤◌, true, get_or, length, map, take};
 ghost use Rattle.rx_terms.specs.Common.{list_all, IsUtf8};
 ghost use Rattle.std.specs.Simd.Lanes.{mask_l};
-ghost use Rattle.rx_scan.specs.Plain.{ends_ascii, is_plain, is_plain_ascii, is_stop};
+ghost use Rattle.rx_scan.specs.Plain.{ends_ascii, is_plain_ascii, is_plain_char, is_stop};
 
 use crate::wide_chars::wide_length;
 use std::simd::prelude::*;
@@ -65,7 +65,7 @@ fn ascii_run(bytes: &[u8]) -> usize
 fn run_length(bytes: &[u8]) -> usize
     ensures fits { result ≤ length bytes.now }
     ensures text { IsUtf8 (take result bytes.now) }
-    ensures plain { list_all is_plain (take result bytes.now) ≡ true }
+    ensures plain { list_all is_plain_char (take result bytes.now) ≡ true }
 {
     if bytes.is_empty() || is_stop(bytes[0]) {
         return 0;
@@ -82,7 +82,7 @@ fn text_length(bytes: &[u8], from: usize) -> usize
     requires plain { list_all is_plain_ascii (take from bytes.now) ≡ true }
     ensures fits { result ≤ length bytes.now }
     ensures text { IsUtf8 (take result bytes.now) }
-    ensures plain { list_all is_plain (take result bytes.now) ≡ true }
+    ensures plain { list_all is_plain_char (take result bytes.now) ≡ true }
 {
     let mut count = from;
     while count < bytes.len() {
@@ -101,7 +101,7 @@ fn wide_text(bytes: &[u8], ascii: usize) -> &str
     requires from { ascii ≤ length bytes.now }
     requires plain { list_all is_plain_ascii (take ascii bytes.now) ≡ true }
     ensures front { result.now ≡ take (length result.now) bytes.now }
-    ensures plain { list_all is_plain result.now ≡ true }
+    ensures plain { list_all is_plain_char result.now ≡ true }
 {
     let count = text_length(bytes, ascii);
     unsafe { str::from_utf8_unchecked(&bytes[..count]) }
@@ -112,7 +112,7 @@ fn wide_text(bytes: &[u8], ascii: usize) -> &str
 #[inline(always)]
 pub(crate) fn plain_text(bytes: &[u8]) -> &str
     ensures front { result.now ≡ take (length result.now) bytes.now }
-    ensures plain { list_all is_plain result.now ≡ true }
+    ensures plain { list_all is_plain_char result.now ≡ true }
 {
     let count = ascii_length(bytes);
     if count < bytes.len() && is_stop(bytes[count]) {

@@ -40,7 +40,7 @@ impl Model for Scan {
 
 impl Scan {
     ghost use Rattle.rx_pages.specs.PageReader.{Scanning, no_bytes};
-    ghost use Rattle.rx_scan.specs.Steps.{ScanStands, first_setting, is_of_syntax, may_enter, inside_of, Finishes};
+    ghost use Rattle.rx_scan.specs.Steps.{ScanStands, first_setting, is_of_syntax, may_enter, moved_inside, Finishes};
 
     /// Before the first byte of a page, in content Outside. It takes the memory of the buffer through which text is
     /// handed out, so text by itself asks for no memory later.
@@ -79,14 +79,14 @@ impl Scan {
     pub fn enter(&mut self, content: Content, drop_newline: bool)
         requires between { may_enter self.old ≡ true }
         requires content { is_of_syntax self.old.reading.setting.syntax content ≡ true }
-        ensures new { self.new ≡ inside_of content drop_newline self.old }
+        ensures new { self.new ≡ moved_inside content drop_newline self.old }
         ensures stands { (s : Scanning) → ScanStands self.old s → ScanStands self.new s }
     {
         self.set(content, drop_newline);
     }
 
     fn set(&mut self, content: Content, drop_newline: bool)
-        ensures new { self.new ≡ inside_of content drop_newline self.old }
+        ensures new { self.new ≡ moved_inside content drop_newline self.old }
         ensures between { may_enter self.old ≡ true → self.old.reading.pending.mark ≡ TokenState.Nothing }
     {
         self.reader.setting.inside = content;
@@ -122,7 +122,7 @@ impl Scan {
     ghost use Rattle.rx_scan.specs.contracts.scans.Scan.{the_row};
     ghost use Rattle.std.specs.Prelude.{[], None, Some, OnOk};
     ghost use Rattle.rx_reader.specs.TagReader.{parts_of};
-    ghost use Rattle.rx_scan.specs.Steps.{ScanStands, StepsOn, IsQuiet, NoTagOfText, Keeps, KeepsOn, Advances, Prepared, FailsBy, LiesThere, Shows, ShowsTag, IsLastTag, is_tag, shows_tag};
+    ghost use Rattle.rx_scan.specs.Steps.{ScanStands, StepsOn, IsQuiet, NoTagOfText, KeepsStop, KeepsOn, Advances, Prepared, FailsBy, LiesThere, Shows, ShowsTag, IsLastTag, is_tag, shows_tag};
 
     // What the last step told is forgotten.
     fn prepare(&mut self)
@@ -172,7 +172,7 @@ impl Scan {
     /// scanner's reading has one in the bytes so far, before a token is complete, and then at each later call. After
     /// want of memory nothing else is answered. Text by itself takes no memory, and answers no tag.
     pub fn step(&mut self, piece: &[u8]) -> Result<(usize, Token<'_>), Stop>
-        ensures* after { sem 𝓛 (Rests the_row self.entry (λ new. Keeps self.old piece.now result new × StepsOn self.old piece.now result new)) }
+        ensures* after { sem 𝓛 (Rests the_row self.entry (λ new. KeepsStop self.old piece.now result new × StepsOn self.old piece.now result new)) }
         ensures quiet { IsQuiet self.old piece.now result }
         ensures quiet_tells { NoTagOfText self.old piece.now (IfOk result (λ r. shows_tag r.1 ≡ false)) }
     {

@@ -30,7 +30,7 @@ impl Reader {
     pub(crate) fn tag_on(&mut self, c: char, after_return: bool) -> Result<TokenKind, Stop>
         requires may_step { MayStep self.old.pending.tag }
         requires room { self.old.place.at + 1 < 2 ^ 64 }
-        ensures does { entries.Tags self.old c after_return (entries.marked TokenState.Tag self.old.pending) result self.new }
+        ensures does { entries.Tags self.old c after_return (entries.with_mark TokenState.Tag self.old.pending) result self.new }
         ensures ready { entries.IsReady self.old result self.new }
     {
         let fault = self.fault_at(Kind::BadTag);
@@ -57,7 +57,7 @@ impl Reader {
     ) -> Result<TokenKind, Stop>
         requires may_step { MayStep self.old.pending.tag }
         requires room { self.old.place.at + 1 < 2 ^ 64 }
-        ensures does { entries.Tags self.old c after_return (entries.kept_by (TokenState.RawEnd count) c self.old.pending) result self.new }
+        ensures does { entries.Tags self.old c after_return (entries.with_character (TokenState.RawEnd count) c self.old.pending) result self.new }
         ensures ready { entries.IsReady self.old result self.new }
     {
         let fault = self.fault_at(Kind::BadTag);

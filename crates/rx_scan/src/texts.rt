@@ -18,7 +18,7 @@ impl Reader {
     // One character of text, by itself or by a reference.
     pub(crate) fn say(&mut self, c: char, place: Position) -> Result<TokenKind, Stop>
         requires may_step { MayStep self.old.pending.tag }
-        ensures says { entries.Says self.old c place result self.new }
+        ensures says { entries.SaysCharacter self.old c place result self.new }
         ensures room { self.old.text.size + 4 ≤ self.old.text.room → IsOk result }
         ensures ready { entries.IsReady self.old result self.new }
     {

@@ -2,7 +2,7 @@
 ghost use Rattle.std.specs.Prelude.{◌≡◌, ◌≤◌, ◌&&◌, true, length, take};
 ghost use Rattle.rx_grammar.specs.Common.{list_all, IsUtf8, is_in, tail};
 ghost use Rattle.rx_chars.specs.Held as held;
-ghost use Rattle.rx_scan.specs.Plain.{is_plain};
+ghost use Rattle.rx_scan.specs.Plain.{is_plain_char};
 ghost use Rattle.rx_scan.specs.WideChars.{BeginsWide};
 
 fn is_tail(byte: u8) -> bool
@@ -73,7 +73,7 @@ fn begins_four(bytes: &[u8]) -> bool
 pub(crate) fn wide_length(bytes: &[u8]) -> usize
     ensures fits { result ≤ length bytes.now }
     ensures text { IsUtf8 (take result bytes.now) }
-    ensures plain { list_all is_plain (take result bytes.now) ≡ true }
+    ensures plain { list_all is_plain_char (take result bytes.now) ≡ true }
 {
     if begins_two(bytes) {
         return 2;

@@ -4,16 +4,17 @@ use Rattle.rx_rdfa.specs.Common.{Triple, set_of, Renamed, Context, written, grap
 use Rattle.rx_nquads.specs.Quads.{Quad, quads}
 use Rattle.rx_job.specs.Words.{Task, Extraction, extracts, itemizes, checks}
 use Rattle.rx_page.specs.Outcomes.{IsTheTree, IsTheText}
-use Rattle.rx_page.specs.Tasks.{IsAccepted, Denotes, base_in, facts_in}
+use Rattle.rx_page.specs.Tasks.{IsAccepted, DenotesGraph, facts_in}
 use Rattle.rx_page.specs.Forms.{form_of, in_graph, IsFormText, FormDenotes}
 use Rattle.rx_page.specs.Texts.{as_read}
 use Rattle.rx_quads.specs.Raised.{raised, AreFrom, past}
-use Rattle.rx_quads.specs.Listed.{Shows, quads_of}
+use Rattle.rx_quads.specs.Listed.{ShowsQuadAt, quads_of}
 use Rattle.rx_quads.specs.declared.terms.ShownQuad.{ShownQuad}
 use Rattle.rx_session.specs.declared.given.Given.{Given}
 use Rattle.rx_session.specs.declared.given.Given.TheVariants as given
 use Rattle.rx_session.specs.declared.outputs.Plan.{Plan}
 use Rattle.rx_session.specs.declared.outputs.Plan.TheVariants as plan
+use Rattle.rx_microdata.specs.Base.{base_in}
 
 -- ---- by the definitions
 
@@ -34,7 +35,7 @@ pub record IsTheTextFrom (first : ℕ) (e : Extraction) (context : Context) (byt
   pub is : IsTheTree (extracts e) context bytes tree
   pub gives : HasTextFrom first e context bytes text
   pub alone : (other : List ℕ) → HasTextFrom first e context bytes other → other ≡ text
-  pub denotes : Denotes e context bytes text
+  pub denotes : DenotesGraph e context bytes text
 
 -- from 0 on it is the text that the command writes
 abbrev pub IsTheTextOf : ℕ → Extraction → Context → List ℕ → List ℕ → Type 0
@@ -119,4 +120,4 @@ KeepsGiven (given.Quads q nodes) (given.Quads r others) = (quads_of r ≡ quads_
 abbrev pub ShowsGiven : Given → ℕ → Bool → Given → Type 0
 ShowsGiven (given.Text text nodes) number is_there new = is_there ≡ false
 ShowsGiven (given.Quads q nodes) number is_there (given.Text text others) = ⊥
-ShowsGiven (given.Quads q nodes) number is_there (given.Quads r others) = Shows (quads_of q) number is_there r.shown
+ShowsGiven (given.Quads q nodes) number is_there (given.Quads r others) = ShowsQuadAt (quads_of q) number is_there r.shown

@@ -7,7 +7,7 @@ use Rattle.rx_page.specs.Outcomes.{IsTheFault}
 use Rattle.rx_quads.specs.declared.terms.ShownQuad.{ShownQuad}
 use Rattle.rx_session.specs.Given.{GivesWanted, KeepsGiven, ShowsGiven, text_given, nodes_given, quads_given, shown_given}
 use Rattle.rx_session.specs.Wants.{Want}
-use Rattle.rx_session.specs.Works.{IsAt, HasFaultOn}
+use Rattle.rx_session.specs.Works.{ReadsWanted, HasFaultOn}
 use Rattle.rx_session.specs.declared.given.Given.{Given}
 use Rattle.rx_session.specs.declared.errors.SessionError.{SessionError}
 use Rattle.rx_session.specs.declared.errors.SessionError.TheVariants as error
@@ -16,7 +16,7 @@ use Rattle.rx_session.specs.declared.sessions.State.TheVariants as state
 
 -- The session was opened for this under this context, these bytes of the page were handed over, and they were taken.
 abbrev pub IsFed : Want → Context → List ℕ → State → Type 0
-IsFed want context bytes (state.Reads work) = IsAt want context work bytes
+IsFed want context bytes (state.Reads work) = ReadsWanted want context work bytes
 IsFed want context bytes (state.Gave given) = ⊥
 IsFed want context bytes (state.Refused fault) = ⊥
 IsFed want context bytes state.Spent = ⊥
@@ -26,11 +26,11 @@ abbrev pub WhereFed : State → (Want → Context → List ℕ → Type 0) → T
 WhereFed session holds = (want : Want) (context : Context) (bytes : List ℕ) → IsFed want context bytes session → holds want context bytes
 
 -- the page's text once it was finished
-abbrev pub text_in : State → List ℕ
-text_in (state.Reads work) = []
-text_in (state.Gave given) = text_given given
-text_in (state.Refused fault) = []
-text_in state.Spent = []
+abbrev pub finished_text : State → List ℕ
+finished_text (state.Reads work) = []
+finished_text (state.Gave given) = text_given given
+finished_text (state.Refused fault) = []
+finished_text state.Spent = []
 
 -- how many blank nodes it has then
 abbrev pub nodes_in : State → ℕ
@@ -54,11 +54,11 @@ shown_in (state.Refused fault) = None
 shown_in state.Spent = None
 
 -- its fault, where it was refused
-abbrev pub fault_in : State → Option Fault
-fault_in (state.Reads work) = None
-fault_in (state.Gave text) = None
-fault_in (state.Refused fault) = Some fault
-fault_in state.Spent = None
+abbrev pub refused_fault : State → Option Fault
+refused_fault (state.Reads work) = None
+refused_fault (state.Gave text) = None
+refused_fault (state.Refused fault) = Some fault
+refused_fault state.Spent = None
 
 abbrev pub is_read : State → Bool
 is_read (state.Reads work) = true
@@ -80,18 +80,18 @@ HasGiven want context bytes (state.Refused fault) = ⊥
 HasGiven want context bytes state.Spent = ⊥
 
 -- A piece was taken; or one of its bytes decides a fault, which each page has that begins so; or there was no memory.
-abbrev pub FeedGives : Want → Context → List ℕ → List ℕ → Result (Unit {0}) SessionError → State → Type 0
-FeedGives want context bytes piece (Ok done) new = IsFed want context (bytes ++ piece) new
-FeedGives want context bytes piece (Err (error.Refused fault)) new = HasFaultOn want.task context (bytes ++ piece) fault × (new ≡ state.Refused fault)
-FeedGives want context bytes piece (Err error.NoMemory) new = new ≡ state.Spent
-FeedGives want context bytes piece (Err error.Finished) new = ⊥
+abbrev pub SessionFeedGives : Want → Context → List ℕ → List ℕ → Result (Unit {0}) SessionError → State → Type 0
+SessionFeedGives want context bytes piece (Ok done) new = IsFed want context (bytes ++ piece) new
+SessionFeedGives want context bytes piece (Err (error.Refused fault)) new = HasFaultOn want.task context (bytes ++ piece) fault × (new ≡ state.Refused fault)
+SessionFeedGives want context bytes piece (Err error.NoMemory) new = new ≡ state.Spent
+SessionFeedGives want context bytes piece (Err error.Finished) new = ⊥
 
 -- The page has one text, or one list of quads, which is there then; or one fault; or there was no memory.
-abbrev pub FinishGives : Want → Context → List ℕ → Result (Unit {0}) SessionError → State → Type 0
-FinishGives want context bytes (Ok done) new = HasGiven want context bytes new
-FinishGives want context bytes (Err (error.Refused fault)) new = IsTheFault want.task context bytes fault × (new ≡ state.Refused fault)
-FinishGives want context bytes (Err error.NoMemory) new = new ≡ state.Spent
-FinishGives want context bytes (Err error.Finished) new = ⊥
+abbrev pub SessionFinishGives : Want → Context → List ℕ → Result (Unit {0}) SessionError → State → Type 0
+SessionFinishGives want context bytes (Ok done) new = HasGiven want context bytes new
+SessionFinishGives want context bytes (Err (error.Refused fault)) new = IsTheFault want.task context bytes fault × (new ≡ state.Refused fault)
+SessionFinishGives want context bytes (Err error.NoMemory) new = new ≡ state.Spent
+SessionFinishGives want context bytes (Err error.Finished) new = ⊥
 
 -- what was answered comes again, and the session stays as it was
 abbrev pub FeedAgain : State → Result (Unit {0}) SessionError → State → Type 0

@@ -24,23 +24,23 @@ abbrev pub plain : Task → Want
 plain task = record { task = task; first = 0; singly = false }
 
 -- where quads are handed over no format is asked for: N-Quads stands for it, which denotes them
-abbrev pub format_of : Output → Format
-format_of (output.Text f) = f
-format_of output.Quads = format.Nquads
+abbrev pub output_format : Output → Format
+output_format (output.Text f) = f
+output_format output.Quads = format.Nquads
 
 abbrev pub is_singly : Output → Bool
 is_singly (output.Text f) = false
 is_singly output.Quads = true
 
 -- the graph of what is handed over may have a name
-abbrev pub names_graphs : Output → Bool
-names_graphs (output.Text f) = words.names_graphs f
-names_graphs output.Quads = true
+abbrev pub may_name_graph : Output → Bool
+may_name_graph (output.Text f) = words.names_graphs f
+may_name_graph output.Quads = true
 
 -- what is asked of an extraction
 abbrev pub extraction_seen : CodeExtraction → Want
 extraction_seen e = record {
-  task = extracts (record { syntax = e.syntax; format = format_of e.output; graph = e.graph; address = e.address });
+  task = extracts (record { syntax = e.syntax; format = output_format e.output; graph = e.graph; address = e.address });
   first = e.first;
   singly = is_singly e.output;
 }

@@ -1,7 +1,7 @@
 //! How triples are handed over.
 ghost use Rattle.std.specs.Prelude.{◌≡◌, IfOk};
 ghost use Rattle.rx_nquads.specs.Graphs.{lent_name};
-ghost use Rattle.rx_session.specs.Wants.{format_of, is_singly, plan_for};
+ghost use Rattle.rx_session.specs.Wants.{is_singly, output_format, plan_for};
 
 use rx_job::Format;
 use rx_names::Context;
@@ -34,7 +34,7 @@ impl Plan {
         graph: Option<Iri>,
         context: &Context,
     ) -> Result<Plan, NoMemory>
-        ensures { IfOk result (λ plan. plan ≡ plan_for (is_singly output) (format_of output) graph context.now) }
+        ensures { IfOk result (λ plan. plan ≡ plan_for (is_singly output) (output_format output) graph context.now) }
     {
         match output {
             Output::Text(format) => {

@@ -1,6 +1,6 @@
 //! Opening a session by numbers and bytes, as they come from outside.
 ghost use Rattle.std.specs.Prelude.{None};
-ghost use Rattle.rx_session.specs.Requests.{Opens, bytes_in, extraction_in, items_in, check_in};
+ghost use Rattle.rx_session.specs.Requests.{SessionOpenGives, bytes_in, extraction_in, items_wanted, check_in};
 
 use crate::errors::OpenError;
 use crate::sessions::{Extraction, Session};
@@ -20,7 +20,7 @@ pub fn open_extraction(
     graph: Option<&[u8]>,
     context: Option<&[u8]>,
 ) -> Result<Session, OpenError>
-    ensures { Opens (extraction_in syntax format first address.now (bytes_in graph.entry)) (bytes_in context.entry) result }
+    ensures { SessionOpenGives (extraction_in syntax format first address.now (bytes_in graph.entry)) (bytes_in context.entry) result }
 {
     let Some(first) = first_of(first) else {
         return Err(OpenError::Usage);
@@ -61,7 +61,7 @@ pub fn open_extraction(
 
 /// A session for the items of a page of this address, by the number of its syntax.
 pub fn open_items(alloc: Global, syntax: u32, address: &[u8]) -> Result<Session, OpenError>
-    ensures { Opens (items_in syntax address.now) None result }
+    ensures { SessionOpenGives (items_wanted syntax address.now) None result }
 {
     let Some(syntax) = syntax_of(syntax) else {
         return Err(OpenError::Usage);
@@ -76,7 +76,7 @@ pub fn open_items(alloc: Global, syntax: u32, address: &[u8]) -> Result<Session,
 /// A session for the faults of a page, by the number of its syntax, under the context of a file of these bytes or the
 /// standard one.
 pub fn open_check(alloc: Global, syntax: u32, context: Option<&[u8]>) -> Result<Session, OpenError>
-    ensures { Opens (check_in syntax) (bytes_in context.entry) result }
+    ensures { SessionOpenGives (check_in syntax) (bytes_in context.entry) result }
 {
     let Some(syntax) = syntax_of(syntax) else {
         return Err(OpenError::Usage);

@@ -4,7 +4,7 @@ ghost use Rattle.rx_rdfa.specs.Names.{Context as RulesContext};
 ghost use Rattle.rx_job.specs.Words.{itemizes, checks};
 ghost use Rattle.rx_session.specs.Given.{lent_quad};
 ghost use Rattle.rx_session.specs.Wants.{plain, extraction_seen};
-ghost use Rattle.rx_session.specs.Sessions.{StoppedBy, IsFed, WhereFed, FeedGives, FinishGives, FeedAgain, FinishAgain, text_in, nodes_in, quads_in, shown_in, KeepsQuads, ShowsQuad, fault_in, is_read, is_spent};
+ghost use Rattle.rx_session.specs.Sessions.{StoppedBy, IsFed, WhereFed, SessionFeedGives, SessionFinishGives, FeedAgain, FinishAgain, finished_text, nodes_in, quads_in, shown_in, KeepsQuads, ShowsQuad, refused_fault, is_read, is_spent};
 
 use crate::copies::copy_front;
 use crate::errors::SessionError;
@@ -112,7 +112,7 @@ impl Session {
 
     /// Takes the whole piece.
     pub fn feed(&mut self, piece: &[u8]) -> Result<(), SessionError>
-        ensures gives { WhereFed self.old (λ want context bytes. FeedGives want context bytes piece.now result self.new) }
+        ensures gives { WhereFed self.old (λ want context bytes. SessionFeedGives want context bytes piece.now result self.new) }
         ensures again { FeedAgain self.old result self.new }
     {
         match &mut self.state {
@@ -128,7 +128,7 @@ impl Session {
 
     /// The page's end: its text is there then, or its quads are.
     pub fn finish(&mut self, alloc: Global) -> Result<(), SessionError>
-        ensures gives { WhereFed self.old (λ want context bytes. FinishGives want context bytes result self.new) }
+        ensures gives { WhereFed self.old (λ want context bytes. SessionFinishGives want context bytes result self.new) }
         ensures again { FinishAgain self.old result self.new }
     {
         match mem::replace(&mut self.state, State::Spent) {
@@ -170,7 +170,7 @@ impl Session {
     /// The page's text once it was finished, and nothing before and after a fault or want of memory, nor where its quads are
     /// shown.
     pub fn text(&self) -> &[u8]
-        ensures { result.now ≡ text_in self.now }
+        ensures { result.now ≡ finished_text self.now }
     {
         match &self.state {
             State::Reads(_) => &[],
@@ -182,8 +182,8 @@ impl Session {
 
     /// Copies the text from this byte on, as far as there is room, and answers how many bytes that are.
     pub fn copy_text(&self, from: usize, out: &mut [u8]) -> usize
-        ensures count { result ≡ min (length out.old) (length (drop from (text_in self.now))) }
-        ensures copied { out.new ≡ take result (drop from (text_in self.now)) ++ drop result out.old }
+        ensures count { result ≡ min (length out.old) (length (drop from (finished_text self.now))) }
+        ensures copied { out.new ≡ take result (drop from (finished_text self.now)) ++ drop result out.old }
     {
         let text = self.text();
         copy_front(&text[from.min(text.len())..], out)
@@ -241,7 +241,7 @@ impl Session {
 
     /// The page's fault, where it was refused.
     pub fn fault(&self) -> Option<Fault>
-        ensures { result ≡ fault_in self.now }
+        ensures { result ≡ refused_fault self.now }
     {
         match &self.state {
             State::Refused(fault) => Some(*fault),

@@ -1,7 +1,7 @@
 //! Numbers and bytes from outside, as what they stand for.
 ghost use Rattle.std.specs.Prelude.{◌≡◌, MatchResult, Some, false};
-ghost use Rattle.rx_session.specs.Requests.{first_in, syntax_in, output_in, iri_in, graph_in, bytes_in, FailsOpen, ContextGives};
-ghost use Rattle.rx_session.specs.Wants.{names_graphs};
+ghost use Rattle.rx_session.specs.Requests.{first_in, numbered_syntax, output_in, iri_in, graph_in, bytes_in, FailsOpen, ContextFileGives};
+ghost use Rattle.rx_session.specs.Wants.{may_name_graph};
 
 use crate::errors::OpenError;
 use crate::outputs::Output;
@@ -26,7 +26,7 @@ pub(crate) fn first_of(number: u64) -> Option<u64>
 
 /// The syntax of this number.
 pub(crate) fn syntax_of(number: u32) -> Option<Syntax>
-    ensures { result ≡ syntax_in number }
+    ensures { result ≡ numbered_syntax number }
 {
     match number {
         0 => Some(Syntax::Html),
@@ -86,7 +86,7 @@ pub(crate) fn graph_of(
 
 /// Whether the graph of what is handed over may have a name.
 fn may_be_named(output: Output) -> bool
-    ensures { result ≡ names_graphs output }
+    ensures { result ≡ may_name_graph output }
 {
     match output {
         Output::Text(format) => names_graphs(format),
@@ -96,7 +96,7 @@ fn may_be_named(output: Output) -> bool
 
 /// The context that holds: that of the file, where its bytes are given, else the standard one.
 pub(crate) fn context_of(alloc: Global, file: Option<&[u8]>) -> Result<Context, OpenError>
-    ensures { ContextGives (bytes_in file.entry) result }
+    ensures { ContextFileGives (bytes_in file.entry) result }
 {
     let Some(file) = file else {
         return Ok(Context::standard(alloc)?);

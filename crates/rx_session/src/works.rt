@@ -4,7 +4,7 @@ ghost use Rattle.rx_rdfa.specs.Names.{Context as RulesContext};
 ghost use Rattle.rx_page.specs.Written.{graph_made};
 ghost use Rattle.rx_session.specs.Given.{IsGiven};
 ghost use Rattle.rx_session.specs.Wants.{Want};
-ghost use Rattle.rx_session.specs.Works.{IsAt, PieceGives, EndGives, CheckEnds, ExtractionEnds, ItemizationEnds};
+ghost use Rattle.rx_session.specs.Works.{ReadsWanted, WorkPieceGives, WorkEndGives, CheckEnds, ExtractionEnds, ItemizationEnds};
 
 use crate::given::Given;
 use crate::graphs::Counted;
@@ -28,8 +28,8 @@ pub(crate) enum Work {
 impl Work {
     /// Takes the whole piece.
     pub(crate) fn feed(&mut self, piece: &[u8]) -> Result<(), Stop>
-        ensures { (want : Want) (context : RulesContext) (bytes : List ℕ) → IsAt want context self.old bytes
-            → PieceGives want context bytes piece.now result self.new }
+        ensures { (want : Want) (context : RulesContext) (bytes : List ℕ) → ReadsWanted want context self.old bytes
+            → WorkPieceGives want context bytes piece.now result self.new }
     {
         match self {
             Work::Extracts { walk, .. } => PageReader::feed(walk, piece),
@@ -40,7 +40,7 @@ impl Work {
 
     /// The page's end, and what it gives.
     pub(crate) fn finish(self, alloc: Global) -> Result<Given, Stop>
-        ensures { (want : Want) (context : RulesContext) (bytes : List ℕ) → IsAt want context self bytes → EndGives want context bytes result }
+        ensures { (want : Want) (context : RulesContext) (bytes : List ℕ) → ReadsWanted want context self bytes → WorkEndGives want context bytes result }
     {
         match self {
             Work::Extracts { walk, plan, first } => extracted(alloc, walk, plan, first),

@@ -1,5 +1,5 @@
 -- Chains that end.
-use Rattle.rx_shapes.proofs.Common.{◌≡◌, ℕ, suc, ◌+◌, ◌<◌, ◌≤◌, true, nat_lt, List, [], ◌++◌, length, get_or, slice_get, Some, refl, sym, ap, subst, ◌∙◌, inl, inr, arith, length-append, nat_tests, slice_get_within, by_test, Among, Among_left, Among_cases, table, is_number, filed, Reach, unreached, reach_all, Leads, ending, linked, Settled, source_row}
+use Rattle.rx_shapes.proofs.Common.{◌≡◌, ℕ, suc, ◌+◌, ◌<◌, ◌≤◌, true, nat_lt, List, [], ◌++◌, length, get_or, slice_get, Some, refl, sym, ap, subst, ◌∙◌, inl, inr, arith, length-append, nat_tests, slice_get_within, by_test, Among, Among_left, Among_cases, table, is_row_key, filed, Reach, unreached, reach_all, ChainEnds, ending, linked, Settled, source_row}
 use Rattle.rx_shapes.specs.declared.chains.Link.{Link}
 use Rattle.rx_shapes.specs.declared.chains.Link.TheVariants as link
 use Rattle.rx_shapes.proofs.RowLemmas.{is_number_true, true_number, got_or, at_position, position_of, among_get, get_among, get_front, same_some}
@@ -29,19 +29,19 @@ module _ (links : List Link) where
   -- what is in the row of a number leads to it
   source_leads : (a b : ℕ) → a < length links → Among (sources_of a) b → slice_get links b ≡ Some (link.To a)
   source_leads a b less m =
-      let r = at_position (λ (l : Link). is_number a (source_row (length links) l)) links b m in
+      let r = at_position (λ (l : Link). is_row_key a (source_row (length links) l)) links b m in
       r.1 ∙ ap Some (row_below (length links) a r.0 less (is_number_true a (source_row (length links) r.0) r.2))
 
   source_ends : (b : ℕ) → Among (sources_of (length links)) b → slice_get links b ≡ Some link.Ends
   source_ends b m =
-      let r = at_position (λ (l : Link). is_number (length links) (source_row (length links) l)) links b m in
+      let r = at_position (λ (l : Link). is_row_key (length links) (source_row (length links) l)) links b m in
       r.1 ∙ ap Some (row_last (length links) r.0 (is_number_true (length links) (source_row (length links) r.0) r.2))
 
   leads_source : (a b : ℕ) → a < length links → slice_get links b ≡ Some (link.To a) → Among (sources_of a) b
-  leads_source a b less at = position_of (λ (l : Link). is_number a (source_row (length links) l)) links b (link.To a) at (true_number a (source_row (length links) (link.To a)) (row_of (length links) a less))
+  leads_source a b less at = position_of (λ (l : Link). is_row_key a (source_row (length links) l)) links b (link.To a) at (true_number a (source_row (length links) (link.To a)) (row_of (length links) a less))
 
   ends_source : (b : ℕ) → slice_get links b ≡ Some link.Ends → Among (sources_of (length links)) b
-  ends_source b at = position_of (λ (l : Link). is_number (length links) (source_row (length links) l)) links b link.Ends at (true_number (length links) (Some (length links)) refl)
+  ends_source b at = position_of (λ (l : Link). is_row_key (length links) (source_row (length links) l)) links b link.Ends at (true_number (length links) (Some (length links)) refl)
 
   -- ---- going back from the ends
 
@@ -50,7 +50,7 @@ module _ (links : List Link) where
     pub reach : IsReach (length links) r
     pub within : done ≤ length r.list
     pub start : (b : ℕ) → slice_get links b ≡ Some link.Ends → Among r.list b
-    pub sound : (b : ℕ) → Among r.list b → Leads links b
+    pub sound : (b : ℕ) → Among r.list b → ChainEnds links b
     pub closed : (k a b : ℕ) → k < done → slice_get r.list k ≡ Some a → slice_get links b ≡ Some (link.To a) → Among r.list b
 
   pub settling_start : (rows : List (List ℕ)) (first r : Reach) → rows ≡ table sources_of 0 (suc (length links)) → first ≡ unreached (length links) → r ≡ reach_all first (get_or rows (length links) []) → Settling r 0
@@ -124,7 +124,7 @@ module _ (links : List Link) where
   pub settling_few : (r : Reach) (done : ℕ) → Settling r done → length r.list ≤ length links
   settling_few r done h = let count = h.reach.count in omega (arith, count)
 
-  led : (r : Reach) (done : ℕ) → length r.list ≤ done → Settling r done → {a : ℕ} → Leads links a → Among r.list a
+  led : (r : Reach) (done : ℕ) → length r.list ≤ done → Settling r done → {a : ℕ} → ChainEnds links a → Among r.list a
   led r done past h (ending {a} at) = h.start a at
   led r done past h (linked {a} {b} at rest) =
       let k = get_among r.list b (led r done past h rest) in

@@ -6,11 +6,11 @@ pub use Rattle.rx_graph.proofs.SetLemmas.{insert_seen, one_more, row_grown, row_
 pub use Rattle.rx_graph.specs.Resources.{number_in}
 pub use Rattle.rx_graph.specs.Rows.{empty_rows, pushed}
 pub use Rattle.rx_shapes.specs.Cells.{object_among, object_if, predicate_of}
-pub use Rattle.rx_shapes.specs.Chains.{Leads, Settled, ending, linked, source_row}
-pub use Rattle.rx_shapes.specs.Links.{AreCells, AreInner, AreNumbered, HasNodes, IsIndex, are_pair, cell_link, cell_links, found_link, inner_link, inner_marks, is_inner_by, link_to, nil_link, object_added, object_number, object_rows, pair_link, parent_link, parent_links, rest_link, shape_by, shapes_by, subject_link, subject_rows, triple_added}
+pub use Rattle.rx_shapes.specs.Chains.{ChainEnds, Settled, ending, linked, source_row}
+pub use Rattle.rx_shapes.specs.Links.{AreCells, AreInner, AreNodeShapes, HasNodes, IsTripleIndex, are_pair, cell_link, cell_links, found_link, inner_link, inner_marks, is_inner_by, link_to, nil_link, object_added, object_number, object_rows, pair_link, parent_link, parent_links, rest_link, shape_by, shapes_by, subject_link, subject_rows, triple_added}
 pub use Rattle.rx_shapes.specs.Places.{picked, places_of}
-pub use Rattle.rx_shapes.specs.Reach.{Reach, marked, reach_added, reach_all, unreached}
-pub use Rattle.rx_shapes.specs.Rows.{filed, filed_in, is_number, positions, table}
+pub use Rattle.rx_shapes.specs.Reach.{Reach, reach_added, reach_all, reach_marked, unreached}
+pub use Rattle.rx_shapes.specs.Rows.{filed, filed_in, is_row_key, positions, table}
 pub use Rattle.rx_shapes.specs.Shapes.{Cell, Ends, Inner, IsShape, Pair, Parent, at_iri, at_top, last_cell, next_cell, onward}
-pub use Rattle.rx_shapes.specs.Subjects.{about, first_of, has_predicate, has_subject, object_at, objects_of, predicates_of, subjects}
+pub use Rattle.rx_shapes.specs.Subjects.{about, first_member, has_predicate, has_subject, object_at, objects_of, predicates_of, subjects}
 pub use Rattle.std.proofs.lemmas.List.{length-replicate}

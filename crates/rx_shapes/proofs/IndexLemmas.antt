@@ -1,5 +1,5 @@
 -- Nodes by number.
-use Rattle.rx_shapes.proofs.Common.{nat_tests, take_all, same_truth, by_test, Node, Iri, Blank, Term, Resource, Triple, same_node, node_seen, triple_seen, triples_seen, exact_numbers, exact_nodes, false_unless, Among_cases, ◌≡◌, ℕ, suc, zero, ◌+◌, ◌≤◌, Bool, true, false, nat_eq, nat_lt, List, [], ◌∷◌, ◌++◌, map, length, take, position, slice_get, Some, option_map, refl, sym, ap, subst, ◌∙◌, inl, inr, true≢false, arith, rules, ◌↔◌, number_in, insert_seen, seen_more, contains_added, number_same, is_number, object_number, object_added, triple_added, HasNodes}
+use Rattle.rx_shapes.proofs.Common.{nat_tests, take_all, same_truth, by_test, Node, Iri, Blank, Term, Resource, Triple, same_node, node_seen, triple_seen, triples_seen, exact_numbers, exact_nodes, false_unless, Among_cases, ◌≡◌, ℕ, suc, zero, ◌+◌, ◌≤◌, Bool, true, false, nat_eq, nat_lt, List, [], ◌∷◌, ◌++◌, map, length, take, position, slice_get, Some, option_map, refl, sym, ap, subst, ◌∙◌, inl, inr, true≢false, arith, rules, ◌↔◌, number_in, insert_seen, seen_more, contains_added, number_same, is_row_key, object_number, object_added, triple_added, HasNodes}
 use Rattle.rx_model.proofs.Common.{position_or_len, contains, with_one, or_left, or_right}
 use Rattle.std.proofs.Common.{if◌then◌else◌}
 use Rattle.rx_unique.specs.Unique.{insert_key}
@@ -43,24 +43,24 @@ number_seen (x ∷ list) n = position_more (node_eq n) x list ∙ rw (nodes_agre
 
 -- ---- a node's number
 
-pub number_test : (nodes : List (Node ℕ)) (n : Node ℕ) (k : ℕ) → number_in nodes n ≡ Some k → (s : Node ℕ) → is_number k (number_in nodes s) ≡ same_node nat_eq n s
+pub number_test : (nodes : List (Node ℕ)) (n : Node ℕ) (k : ℕ) → number_in nodes n ≡ Some k → (s : Node ℕ) → is_row_key k (number_in nodes s) ≡ same_node nat_eq n s
 number_test nodes n k e s =
     let model = exact_nodes nat_eq exact_numbers n s in
-    same_truth (is_number k (number_in nodes s)) (same_node nat_eq n s)
+    same_truth (is_row_key k (number_in nodes s)) (same_node nat_eq n s)
     (λ h. model.1 (number_same nodes n s k e (is_number_true k (number_in nodes s) h)))
     (λ h. true_number k (number_in nodes s) (ap (number_in nodes) (sym (model.0 h)) ∙ e))
 
 -- ---- an object's number
 
-pub object_is : (nodes : List (Node ℕ)) (b k : ℕ) → number_in nodes (Blank b) ≡ Some k → (o : Term ℕ) → is_number k (object_number nodes o) ≡ true → o ≡ Resource (Blank b)
+pub object_is : (nodes : List (Node ℕ)) (b k : ℕ) → number_in nodes (Blank b) ≡ Some k → (o : Term ℕ) → is_row_key k (object_number nodes o) ≡ true → o ≡ Resource (Blank b)
 object_is nodes b k e (Resource (Blank c)) h = ap Resource (number_same nodes (Blank c) (Blank b) k (is_number_true k (number_in nodes (Blank c)) h) e)
 object_is nodes b k e _ h = absurd (true≢false (sym h))
 
-pub is_object : (nodes : List (Node ℕ)) (b k : ℕ) → number_in nodes (Blank b) ≡ Some k → (o : Term ℕ) → o ≡ Resource (Blank b) → is_number k (object_number nodes o) ≡ true
-is_object nodes b k e o q = subst (λ (z : Term ℕ). is_number k (object_number nodes z) ≡ true) (sym q) (true_number k (number_in nodes (Blank b)) e)
+pub is_object : (nodes : List (Node ℕ)) (b k : ℕ) → number_in nodes (Blank b) ≡ Some k → (o : Term ℕ) → o ≡ Resource (Blank b) → is_row_key k (object_number nodes o) ≡ true
+is_object nodes b k e o q = subst (λ (z : Term ℕ). is_row_key k (object_number nodes z) ≡ true) (sym q) (true_number k (number_in nodes (Blank b)) e)
 
-pub no_object : (nodes : List (Node ℕ)) (iri : List ℕ) (k : ℕ) → number_in nodes (Iri iri) ≡ Some k → (o : Term ℕ) → is_number k (object_number nodes o) ≡ false
-no_object nodes iri k e (Resource (Blank c)) = false_unless (is_number k (number_in nodes (Blank c))) (λ h. absurd (cc (number_same nodes (Blank c) (Iri iri) k (is_number_true k (number_in nodes (Blank c)) h) e)))
+pub no_object : (nodes : List (Node ℕ)) (iri : List ℕ) (k : ℕ) → number_in nodes (Iri iri) ≡ Some k → (o : Term ℕ) → is_row_key k (object_number nodes o) ≡ false
+no_object nodes iri k e (Resource (Blank c)) = false_unless (is_row_key k (number_in nodes (Blank c))) (λ h. absurd (cc (number_same nodes (Blank c) (Iri iri) k (is_number_true k (number_in nodes (Blank c)) h) e)))
 no_object nodes iri k e _ = refl
 
 -- ---- the nodes of a list

@@ -1,5 +1,5 @@
 -- What is found by the places of a node's triples.
-use Rattle.rx_shapes.proofs.Common.{◌≡◌, ◌∙◌, ℕ, suc, Bool, true, false, cond, nat_eq, List, [], ◌∷◌, ◌++◌, map, filter, length, length-append, slice_get, Option, Some, None, option_to_list, refl, sym, ap, ap₂, arith, append_assoc, Chars, by_test, Node, Term, Triple, same_node, positions, places_of, picked, about, has_subject, has_predicate, first_of, object_at, object_if, object_among}
+use Rattle.rx_shapes.proofs.Common.{◌≡◌, ◌∙◌, ℕ, suc, Bool, true, false, cond, nat_eq, List, [], ◌∷◌, ◌++◌, map, filter, length, length-append, slice_get, Option, Some, None, option_to_list, refl, sym, ap, ap₂, arith, append_assoc, Chars, by_test, Node, Term, Triple, same_node, positions, places_of, picked, about, has_subject, has_predicate, first_member, object_at, object_if, object_among}
 use Rattle.rx_model.proofs.Common.{if◌then◌else◌, option_or}
 use Rattle.rx_shapes.proofs.RowLemmas.{positions_same}
 use Rattle.rx_shapes.proofs.Grouped.{same_back}
@@ -27,14 +27,14 @@ module _ (list : List (Triple ℕ)) (node : Node ℕ) (places : List ℕ) (are :
   -- ---- the first object of a predicate
 
   abbrev first_object : Chars → List (Triple ℕ) → Option (Term ℕ)
-  first_object p triples = first_of (map (λ (t : Triple ℕ). t.object) (filter (has_predicate p) triples))
+  first_object p triples = first_member (map (λ (t : Triple ℕ). t.object) (filter (has_predicate p) triples))
 
   among_is : (p : Chars) (some : List ℕ) → object_among list some p ≡ first_object p (picked list some)
   among_is p [] = refl
   among_is p (place ∷ some) = go (slice_get list place) (among_is p some)
     where
       one : (b : Bool) (t : Triple ℕ) → object_among list some p ≡ first_object p (picked list some)
-          → option_or (if b then Some t.object else None) (object_among list some p) ≡ first_of (map (λ (t : Triple ℕ). t.object) (cond b (t ∷ filter (has_predicate p) (picked list some)) (filter (has_predicate p) (picked list some))))
+          → option_or (if b then Some t.object else None) (object_among list some p) ≡ first_member (map (λ (t : Triple ℕ). t.object) (cond b (t ∷ filter (has_predicate p) (picked list some)) (filter (has_predicate p) (picked list some))))
       one true t ih = refl
       one false t ih = ih
 

@@ -1,5 +1,5 @@
 -- Numbers that are reached.
-use Rattle.rx_shapes.proofs.Common.{◌≡◌, ◌↔◌, ◌⊎◌, ℕ, suc, zero, ◌+◌, ◌<◌, Bool, true, false, nat_eq, List, [], ◌∷◌, ◌++◌, length, get_or, slice_set, replicate, refl, sym, ap, subst, ◌∙◌, inl, inr, true≢false, arith, append-nil, append_assoc, length-append, Decides-eqb, by_test, Among, Among_left, Among_right, Among_cases, length-set, get_or-set_other, get_or-set_same, get_or_default, length-replicate, Reach, unreached, marked, reach_added, reach_all}
+use Rattle.rx_shapes.proofs.Common.{◌≡◌, ◌↔◌, ◌⊎◌, ℕ, suc, zero, ◌+◌, ◌<◌, Bool, true, false, nat_eq, List, [], ◌∷◌, ◌++◌, length, get_or, slice_set, replicate, refl, sym, ap, subst, ◌∙◌, inl, inr, true≢false, arith, append-nil, append_assoc, length-append, Decides-eqb, by_test, Among, Among_left, Among_right, Among_cases, length-set, get_or-set_other, get_or-set_same, get_or_default, length-replicate, Reach, unreached, reach_marked, reach_added, reach_all}
 
 -- how many have no mark
 pub unmarked : List Bool → ℕ
@@ -55,7 +55,7 @@ is_reach_start n = record {
   listed = λ a. (λ h. absurd (true≢false (sym h ∙ none_start n a)), λ m. absurd m);
 }
 
-mark_one : (n : ℕ) (r : Reach) (a : ℕ) → get_or r.marks a true ≡ false → IsReach n r → IsReach n (marked r a)
+mark_one : (n : ℕ) (r : Reach) (a : ℕ) → get_or r.marks a true ≡ false → IsReach n r → IsReach n (reach_marked r a)
 mark_one n r a e h = record {
   size = length-set r.marks a true ∙ h.size;
   count =

@@ -1,15 +1,15 @@
 -- Tables, rows of numbers, and where things stand in a list.
-use Rattle.rx_shapes.proofs.Common.{◌≡◌, ℕ, suc, zero, ◌+◌, ◌<◌, ◌≤◌, Bool, true, false, nat_eq, List, [], ◌∷◌, ◌++◌, filter, length, take, get_or, slice_get, Option, Some, None, refl, sym, ap, ap₂, subst, ◌∙◌, inl, inr, true≢false, arith, append-nil, Decides-eqb, take_all, by_test, Among, Among_of_filter, false_unless, under_cond, get_or_from_slice_get, pushed, empty_rows, one_more, empty_more, filed_in, table, is_number, positions, filed}
+use Rattle.rx_shapes.proofs.Common.{◌≡◌, ℕ, suc, zero, ◌+◌, ◌<◌, ◌≤◌, Bool, true, false, nat_eq, List, [], ◌∷◌, ◌++◌, filter, length, take, get_or, slice_get, Option, Some, None, refl, sym, ap, ap₂, subst, ◌∙◌, inl, inr, true≢false, arith, append-nil, Decides-eqb, take_all, by_test, Among, Among_of_filter, false_unless, under_cond, get_or_from_slice_get, pushed, empty_rows, one_more, empty_more, filed_in, table, is_row_key, positions, filed}
 use Rattle.rx_model.proofs.Common.{if◌then◌else◌}
 
 pub unlike : (k m : ℕ) → ¬ (k ≡ m) → nat_eq k m ≡ false
 unlike k m n = false_unless (nat_eq k m) (λ h. n ((Decides-eqb k m).0 h))
 
-pub is_number_true : (k : ℕ) (o : Option ℕ) → is_number k o ≡ true → o ≡ Some k
+pub is_number_true : (k : ℕ) (o : Option ℕ) → is_row_key k o ≡ true → o ≡ Some k
 is_number_true k (Some n) h = ap Some (sym ((Decides-eqb k n).0 h))
 is_number_true k None h = absurd (true≢false (sym h))
 
-pub true_number : (k : ℕ) (o : Option ℕ) → o ≡ Some k → is_number k o ≡ true
+pub true_number : (k : ℕ) (o : Option ℕ) → o ≡ Some k → is_row_key k o ≡ true
 true_number k (Some n) h = let e : n ≡ k = cc in (Decides-eqb k n).1 (sym e)
 true_number k None h = absurd (cc)
 
@@ -88,10 +88,10 @@ module _ {A : Type 0} where
       let rest = positions_more test (suc j) list a ∙ ap (λ n. positions test (suc j) list ++ (if test a then n ∷ [] else [])) next in
       by_test (test x) (λ e. rw e (ap (λ z. j ∷ z) rest)) (λ e. rw e rest)
 
-  filed_more : (of : A → Option ℕ) (list : List A) (a : A) (k : ℕ) → filed of (list ++ a ∷ []) k ≡ filed of list k ++ (if is_number k (of a) then length list ∷ [] else [])
+  filed_more : (of : A → Option ℕ) (list : List A) (a : A) (k : ℕ) → filed of (list ++ a ∷ []) k ≡ filed of list k ++ (if is_row_key k (of a) then length list ∷ [] else [])
   filed_more of list a k =
       let same : 0 + length list ≡ length list = omega arith in
-      positions_more (λ x. is_number k (of x)) 0 list a ∙ ap (λ n. filed of list k ++ (if is_number k (of a) then n ∷ [] else [])) same
+      positions_more (λ x. is_row_key k (of x)) 0 list a ∙ ap (λ n. filed of list k ++ (if is_row_key k (of a) then n ∷ [] else [])) same
 
   filed_turn : (of : A → Option ℕ) (list : List A) (a : A) (n : ℕ) (rows : List (List ℕ)) (o : Option ℕ) → of a ≡ o → rows ≡ table (filed of list) 0 n
       → filed_in rows o (length list) ≡ table (filed of (list ++ a ∷ [])) 0 n
@@ -100,10 +100,10 @@ module _ {A : Type 0} where
       let same : m ≡ 0 + m = omega arith in
       ap (λ z. pushed z m (length list)) before ∙ pushed_table (filed of list) 0 n m m (length list) same
       ∙ table_same (put (filed of list) m (length list)) (filed of (list ++ a ∷ [])) 0 n
-      (λ k le. sym (filed_more of list a k ∙ ap (λ z. filed of list k ++ (if is_number k z then length list ∷ [] else [])) e))
+      (λ k le. sym (filed_more of list a k ∙ ap (λ z. filed of list k ++ (if is_row_key k z then length list ∷ [] else [])) e))
   filed_turn of list a n rows None e before =
       before ∙ table_same (filed of list) (filed of (list ++ a ∷ [])) 0 n
-      (λ k le. sym (filed_more of list a k ∙ ap (λ z. filed of list k ++ (if is_number k z then length list ∷ [] else [])) e ∙ append-nil (filed of list k)))
+      (λ k le. sym (filed_more of list a k ∙ ap (λ z. filed of list k ++ (if is_row_key k z then length list ∷ [] else [])) e ∙ append-nil (filed of list k)))
 
   -- one turn of a loop that files the places of a list
   pub filing : (of : A → Option ℕ) (list : List A) (i n : ℕ) (a : A) (old new : List (List ℕ)) → slice_get list i ≡ Some a → new ≡ filed_in old (of a) i

@@ -1,5 +1,5 @@
 -- The shapes of nodes, by their numbers.
-use Rattle.rx_shapes.proofs.Common.{◌≡◌, ◌⊎◌, ℕ, Bool, true, false, nat_eq, List, [], ◌∷◌, length, get_or, slice_get, Option, Some, None, refl, sym, ap, ap₂, subst, ◌∙◌, inl, inr, true≢false, arith, bytes_eq, ◌&&◌, ◌==◌, Decides-eqb, by_test, Among, Node, Iri, Blank, Term, Resource, Literal, Triple, set_of, same_node, same_triple, spo, exact_texts, exact_numbers, exact_nodes, exact_triples, false_unless, and_left, and_right, rdf_first, rdf_rest, rdf_nil, number_in, number_small, number_same, number_there, Parent, Ends, at_iri, at_top, onward, Inner, Pair, Cell, last_cell, next_cell, IsShape, places_of, is_number, filed, Leads, ending, linked, Settled, object_number, link_to, subject_link, parent_link, nil_link, rest_link, are_pair, pair_link, found_link, cell_link, inner_link, is_inner_by, shape_by, HasNodes, IsIndex, subject_rows, object_rows, parent_links, inner_marks, cell_links, shapes_by, AreInner, AreCells, AreNumbered}
+use Rattle.rx_shapes.proofs.Common.{◌≡◌, ◌⊎◌, ℕ, Bool, true, false, nat_eq, List, [], ◌∷◌, length, get_or, slice_get, Option, Some, None, refl, sym, ap, ap₂, subst, ◌∙◌, inl, inr, true≢false, arith, bytes_eq, ◌&&◌, ◌==◌, Decides-eqb, by_test, Among, Node, Iri, Blank, Term, Resource, Literal, Triple, set_of, same_node, same_triple, spo, exact_texts, exact_numbers, exact_nodes, exact_triples, false_unless, and_left, and_right, rdf_first, rdf_rest, rdf_nil, number_in, number_small, number_same, number_there, Parent, Ends, at_iri, at_top, onward, Inner, Pair, Cell, last_cell, next_cell, IsShape, places_of, is_row_key, filed, ChainEnds, ending, linked, Settled, object_number, link_to, subject_link, parent_link, nil_link, rest_link, are_pair, pair_link, found_link, cell_link, inner_link, is_inner_by, shape_by, HasNodes, IsTripleIndex, subject_rows, object_rows, parent_links, inner_marks, cell_links, shapes_by, AreInner, AreCells, AreNodeShapes}
 use Rattle.rx_model.proofs.Common.{if◌then◌else◌, and_from}
 use Rattle.rx_shapes.specs.declared.chains.Link.{Link}
 use Rattle.rx_shapes.specs.declared.chains.Link.TheVariants as link
@@ -48,7 +48,7 @@ rest_leads nodes (Resource (Iri iri)) p e = absurd (nil_never_leads (bytes_eq ir
 rest_leads nodes (Resource (Blank b)) p e = (b, refl, linked_number (number_in nodes (Blank b)) p e)
 rest_leads nodes (Literal text kind) p e = absurd (cc)
 
-module _ (list : List (Triple ℕ)) (nodes : List (Node ℕ)) (h : IsIndex list nodes) where
+module _ (list : List (Triple ℕ)) (nodes : List (Node ℕ)) (h : IsTripleIndex list nodes) where
   abbrev has : HasNodes list nodes
   has = h.has
 
@@ -61,7 +61,7 @@ module _ (list : List (Triple ℕ)) (nodes : List (Node ℕ)) (h : IsIndex list 
   uses k = filed (λ (t : Triple ℕ). object_number nodes t.object) list k
 
   abbrev used : ℕ → Triple ℕ → Bool
-  used k t = is_number k (object_number nodes t.object)
+  used k t = is_row_key k (object_number nodes t.object)
 
   parent_of : (b k i : ℕ) → number_in nodes (Blank b) ≡ Some k → uses k ≡ i ∷ [] → (t : Triple ℕ) × (slice_get list i ≡ Some t) × Parent (set_of list) b t.subject
   parent_of b k i e row =
@@ -110,7 +110,7 @@ module _ (list : List (Triple ℕ)) (nodes : List (Node ℕ)) (h : IsIndex list 
           (r.0.subject, r.2, linked_number (number_in nodes r.0.subject) p (sym (ap (subject_link nodes) r.1) ∙ h))
       go _ row h = absurd (cc)
 
-  ends_by : {k : ℕ} → Leads links k → (n : Node ℕ) → number_in nodes n ≡ Some k → Ends (set_of list) n
+  ends_by : {k : ℕ} → ChainEnds links k → (n : Node ℕ) → number_in nodes n ≡ Some k → Ends (set_of list) n
   ends_by (ending {a = k} at) (Blank b) e = at_top (top b k e (same_some (slice_get links k) (parent_link list nodes (uses k)) link.Ends (link_at (Blank b) k e) at))
   ends_by (linked {a = k} {b = p} at rest) (Blank b) e =
       let r = up b k p e (same_some (slice_get links k) (parent_link list nodes (uses k)) (link.To p) (link_at (Blank b) k e) at) in onward r.1 (ends_by rest r.0 r.2)
@@ -124,7 +124,7 @@ module _ (list : List (Triple ℕ)) (nodes : List (Node ℕ)) (h : IsIndex list 
       go (i ∷ []) row = let r = parent_of b k i e row in absurd (none r.0.subject r.2)
       go _ row = ap (parent_link list nodes) row
 
-  led_by : {n : Node ℕ} → Ends (set_of list) n → (k : ℕ) → number_in nodes n ≡ Some k → Leads links k
+  led_by : {n : Node ℕ} → Ends (set_of list) n → (k : ℕ) → number_in nodes n ≡ Some k → ChainEnds links k
   led_by (at_iri {iri}) k e = ending (link_at (Iri iri) k e ∙ ap (λ (z : List ℕ). Some (parent_link list nodes z)) (iri_uses iri k e))
   led_by (at_top {b} none) k e = ending (link_at (Blank b) k e ∙ ap Some (top_link b k e none))
   led_by (onward {b} {parent = n} p rest) k e =
@@ -176,7 +176,7 @@ module _ (list : List (Triple ℕ)) (nodes : List (Node ℕ)) (h : IsIndex list 
   places k = filed (λ (t : Triple ℕ). number_in nodes t.subject) list k
 
   abbrev said_of : ℕ → Triple ℕ → Bool
-  said_of k t = is_number k (number_in nodes t.subject)
+  said_of k t = is_row_key k (number_in nodes t.subject)
 
   said_is : (n : Node ℕ) (k : ℕ) → number_in nodes n ≡ Some k → (t : Triple ℕ) → said_of k t ≡ true → t.subject ≡ n
   said_is n k e t h = number_same nodes t.subject n k (is_number_true k (number_in nodes t.subject) h) e
@@ -259,7 +259,7 @@ module _ (list : List (Triple ℕ)) (nodes : List (Node ℕ)) (h : IsIndex list 
         let is = same_some (slice_get rests k) (inner_link list nodes (get_or inner k false) (places k)) l (rest_at (Blank c) k e) at in
         by_test (get_or inner k false) (λ f. ((are_in.each c k e).0 f, from_pair c k l e (rw f at is) unbroken)) (λ f. absurd (unbroken (sym (rw f at is))))
 
-    cell_by : {k : ℕ} → Leads rests k → (c : ℕ) → number_in nodes (Blank c) ≡ Some k → Cell (set_of list) c
+    cell_by : {k : ℕ} → ChainEnds rests k → (c : ℕ) → number_in nodes (Blank c) ≡ Some k → Cell (set_of list) c
     cell_by (ending {a = k} at) c e =
         let r = inner_pair c k link.Ends e at (λ q. cc) in
         last_cell r.0 (subst (Pair (set_of list) c r.1.item) (rest_ends nodes r.1.after r.1.is) r.1.pair)
@@ -275,7 +275,7 @@ module _ (list : List (Triple ℕ)) (nodes : List (Node ℕ)) (h : IsIndex list 
     nil_is : nil_link (bytes_eq rdf_nil rdf_nil) ≡ link.Ends
     nil_is = ap nil_link ((exact_texts rdf_nil rdf_nil).1 refl)
 
-    cell_leads : {c : ℕ} → Cell (set_of list) c → (k : ℕ) → number_in nodes (Blank c) ≡ Some k → Leads rests k
+    cell_leads : {c : ℕ} → Cell (set_of list) c → (k : ℕ) → number_in nodes (Blank c) ≡ Some k → ChainEnds rests k
     cell_leads (last_cell {b = c} {item} i p) k e = ending (inner_rest c k item (Resource (Iri rdf_nil)) e i p ∙ ap Some nil_is)
     cell_leads (next_cell {b = c} {c = d} {item} i p rest) k e =
         let number = number_there nodes (Blank d) (has.objects (spo (Blank c) rdf_rest (Resource (Blank d))) d p.rest refl) in
@@ -288,7 +288,7 @@ module _ (list : List (Triple ℕ)) (nodes : List (Node ℕ)) (h : IsIndex list 
 
     -- ---- shapes
 
-    pub have_shapes : (cells : List Bool) (shapes : List Shape) → AreCells list nodes cells → shapes ≡ shapes_by inner cells (length nodes) → AreNumbered list nodes shapes
+    pub have_shapes : (cells : List Bool) (shapes : List Shape) → AreCells list nodes cells → shapes ≡ shapes_by inner cells (length nodes) → AreNodeShapes list nodes shapes
     have_shapes cells shapes are_cells shapes_are = record {
       each = λ b k e.
           let shape_is : get_or shapes k shape.Labelled ≡ shape_by (get_or inner k false) (get_or cells k false) = ap (λ (z : List Shape). get_or z k shape.Labelled) shapes_are
@@ -304,7 +304,7 @@ module _ (list : List (Triple ℕ)) (nodes : List (Node ℕ)) (h : IsIndex list 
   no_number : (s : Node ℕ) → number_in nodes s ≡ None → (k : ℕ) × (number_in nodes s ≡ Some k) → ⊥
   no_number s e (k, f) = cc
 
-  pub are_shapes : (rows : List (List ℕ)) (shapes : List Shape) → rows ≡ subject_rows list nodes → AreNumbered list nodes shapes → AreShapes list (record { nodes = nodes; places = rows; shapes = shapes })
+  pub are_shapes : (rows : List (List ℕ)) (shapes : List Shape) → rows ≡ subject_rows list nodes → AreNodeShapes list nodes shapes → AreShapes list (record { nodes = nodes; places = rows; shapes = shapes })
   are_shapes rows shapes rows_are have = record { shape = λ b. shape_go b (number_in nodes (Blank b)) refl; places = λ node. places_go node (number_in nodes node) refl }
     where
       shape_go : (b : ℕ) (o : Option ℕ) → number_in nodes (Blank b) ≡ o → IsShape (set_of list) b (shape_at shapes (number_in nodes (Blank b)))
@@ -316,7 +316,7 @@ module _ (list : List (Triple ℕ)) (nodes : List (Node ℕ)) (h : IsIndex list 
       places_go node (Some k) e =
           ap (places_at rows) e ∙ ap (λ (z : List (List ℕ)). get_or z k []) rows_are
           ∙ got_or (filed (λ (t : Triple ℕ). number_in nodes t.subject) list) (length nodes) k [] (number_small nodes node k e)
-          ∙ positions_same (λ (t : Triple ℕ). is_number k (number_in nodes t.subject)) (λ (t : Triple ℕ). same_node nat_eq node t.subject) 0 list (λ t. number_test nodes node k e t.subject)
+          ∙ positions_same (λ (t : Triple ℕ). is_row_key k (number_in nodes t.subject)) (λ (t : Triple ℕ). same_node nat_eq node t.subject) 0 list (λ t. number_test nodes node k e t.subject)
       places_go node None e =
           ap (places_at rows) e
           ∙ sym (positions_none (λ (t : Triple ℕ). same_node nat_eq node t.subject) 0 list

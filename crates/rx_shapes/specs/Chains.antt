@@ -4,13 +4,13 @@ use Rattle.rx_shapes.specs.declared.chains.Link.{Link}
 use Rattle.rx_shapes.specs.declared.chains.Link.TheVariants as link
 
 -- the chain from a number comes to one at which it ends
-pub data Leads (links : List Link) : ℕ → Type 0 where
-  ending : {a : ℕ} → slice_get links a ≡ Some link.Ends → Leads links a
-  linked : {a b : ℕ} → slice_get links a ≡ Some (link.To b) → Leads links b → Leads links a
+pub data ChainEnds (links : List Link) : ℕ → Type 0 where
+  ending : {a : ℕ} → slice_get links a ≡ Some link.Ends → ChainEnds links a
+  linked : {a b : ℕ} → slice_get links a ≡ Some (link.To b) → ChainEnds links b → ChainEnds links a
 
 -- the marks are those of the numbers whose chains end
 pub record Settled (links : List Link) (marks : List Bool) : Type 0 where
-  pub each : (a : ℕ) → (get_or marks a false ≡ true) ↔ Leads links a
+  pub each : (a : ℕ) → (get_or marks a false ≡ true) ↔ ChainEnds links a
 
 -- where a link is filed, of so many: under the number to which it leads, or last, where the chain ends
 abbrev pub source_row : ℕ → Link → Option ℕ

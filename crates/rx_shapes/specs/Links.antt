@@ -86,7 +86,7 @@ pub record HasNodes (list : List (Triple ℕ)) (nodes : List (Node ℕ)) : Type 
   pub objects : (t : Triple ℕ) (b : ℕ) → Among list t → t.object ≡ Resource (Blank b) → contains (same_node nat_eq) nodes (Blank b) ≡ true
 
 -- the list has each triple once, and the nodes are those of the list
-pub record IsIndex (list : List (Triple ℕ)) (nodes : List (Node ℕ)) : Type 0 where
+pub record IsTripleIndex (list : List (Triple ℕ)) (nodes : List (Node ℕ)) : Type 0 where
   pub each_once : distinct (same_triple nat_eq) list ≡ list
   pub has : HasNodes list nodes
 
@@ -120,5 +120,5 @@ pub record AreCells (list : List (Triple ℕ)) (nodes : List (Node ℕ)) (marks 
   pub each : (b k : ℕ) → number_in nodes (Blank b) ≡ Some k → (get_or marks k false ≡ true) ↔ Cell (set_of list) b
 
 -- the shapes are those of the nodes
-pub record AreNumbered (list : List (Triple ℕ)) (nodes : List (Node ℕ)) (shapes : List Shape) : Type 0 where
+pub record AreNodeShapes (list : List (Triple ℕ)) (nodes : List (Node ℕ)) (shapes : List Shape) : Type 0 where
   pub each : (b k : ℕ) → number_in nodes (Blank b) ≡ Some k → IsShape (set_of list) b (get_or shapes k shape.Labelled)

@@ -10,12 +10,12 @@ pub record Reach : Type 0 where
 abbrev pub unreached : ℕ → Reach
 unreached size = record { marks = replicate size false; list = [] }
 
-abbrev pub marked : Reach → ℕ → Reach
-marked reach a = record { marks = slice_set reach.marks a true; list = reach.list ++ a ∷ [] }
+abbrev pub reach_marked : Reach → ℕ → Reach
+reach_marked reach a = record { marks = slice_set reach.marks a true; list = reach.list ++ a ∷ [] }
 
 -- one more, where it isn't marked and there is a mark for it
 abbrev pub reach_added : Reach → ℕ → Reach
-reach_added reach a = if get_or reach.marks a true then reach else marked reach a
+reach_added reach a = if get_or reach.marks a true then reach else reach_marked reach a
 
 -- one after another
 abbrev pub reach_all : Reach → List ℕ → Reach

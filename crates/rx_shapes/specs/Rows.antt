@@ -13,9 +13,9 @@ table f j zero = []
 table f j (suc n) = f j ∷ table f (suc j) n
 
 -- the number is this one
-abbrev pub is_number : ℕ → Option ℕ → Bool
-is_number k (Some n) = nat_eq k n
-is_number k None = false
+abbrev pub is_row_key : ℕ → Option ℕ → Bool
+is_row_key k (Some n) = nat_eq k n
+is_row_key k None = false
 
 module _ {A : Type 0} where
   -- the positions, counted from one on, of those that pass the test
@@ -25,4 +25,4 @@ module _ {A : Type 0} where
 
   -- the positions of those that belong to a number
   abbrev pub filed : (A → Option ℕ) → List A → ℕ → List ℕ
-  filed of list k = positions (λ a. is_number k (of a)) 0 list
+  filed of list k = positions (λ a. is_row_key k (of a)) 0 list

@@ -24,10 +24,10 @@ predicates_of list node = distinct bytes_eq (map (λ (t : Triple ℕ). t.predica
 abbrev pub objects_of : List (Triple ℕ) → Node ℕ → Chars → List (Term ℕ)
 objects_of list node predicate = map (λ (t : Triple ℕ). t.object) (filter (has_predicate predicate) (about list node))
 
-abbrev pub first_of : {A : Type 0} → List A → Option A
-first_of [] = None
-first_of (a ∷ more) = Some a
+abbrev pub first_member : {A : Type 0} → List A → Option A
+first_member [] = None
+first_member (a ∷ more) = Some a
 
 -- the first object of a subject's predicate
 abbrev pub object_at : List (Triple ℕ) → Node ℕ → Chars → Option (Term ℕ)
-object_at list node predicate = first_of (objects_of list node predicate)
+object_at list node predicate = first_member (objects_of list node predicate)

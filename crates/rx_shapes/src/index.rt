@@ -2,7 +2,7 @@
 ghost use Rattle.std.specs.Prelude.{◌≡◌, [], length, IfOk, OnOk, nat_eq};
 ghost use Rattle.rx_model.specs.Common.{same_node, with_one, node_seen, term_seen, triple_seen, triples_seen};
 ghost use Rattle.rx_graph.specs.Resources.{number_in};
-ghost use Rattle.rx_shapes.specs.Links.{object_number, triple_added, IsIndex};
+ghost use Rattle.rx_shapes.specs.Links.{object_number, triple_added, IsTripleIndex};
 
 use rx_graph::Graph;
 use rx_terms::{NoMemory, Node, Term, Triple};
@@ -36,7 +36,7 @@ impl Index {
 
     /// The subjects of the graph, and its blank nodes.
     pub(crate) fn of(alloc: Global, graph: &Graph) -> Result<Index, NoMemory>
-        ensures { IfOk result (λ nodes. IsIndex (triples_seen graph.now) nodes) }
+        ensures { IfOk result (λ nodes. IsTripleIndex (triples_seen graph.now) nodes) }
     {
         let mut index = Index::new(alloc);
         index.add_all(graph)?;
@@ -44,7 +44,7 @@ impl Index {
     }
 
     fn add_all(&mut self, graph: &Graph) -> Result<(), NoMemory>
-        ensures { OnOk result (IsIndex (triples_seen graph.now) self.new) }
+        ensures { OnOk result (IsTripleIndex (triples_seen graph.now) self.new) }
     {
         for i in 0..graph.len() {
             self.add_triple(graph.at(i))?;

@@ -3,7 +3,7 @@ ghost use Rattle.std.specs.Prelude.{◌≡◌, ◌<◌, length, IfOk, get_or, fa
 ghost use Rattle.rx_model.specs.Seen.{term_seen, triple_seen, triples_seen};
 ghost use Rattle.rx_graph.specs.Resources.{number_in};
 ghost use Rattle.rx_shapes.specs.Rows.{filed, table};
-ghost use Rattle.rx_shapes.specs.Links.{object_number, link_to, parent_link, subject_link, rest_link, are_pair, pair_link, found_link, cell_link, inner_link, nil_link, is_inner_by, AreInner, AreCells, IsIndex, subject_rows, object_rows, parent_links, inner_marks, cell_links};
+ghost use Rattle.rx_shapes.specs.Links.{object_number, link_to, parent_link, subject_link, rest_link, are_pair, pair_link, found_link, cell_link, inner_link, nil_link, is_inner_by, AreInner, AreCells, IsTripleIndex, subject_rows, object_rows, parent_links, inner_marks, cell_links};
 
 use crate::chains::{Link, settle};
 use crate::index::Index;
@@ -41,7 +41,7 @@ pub(crate) fn inner_nodes(
     graph: &Graph,
     index: &Index,
 ) -> Result<Vec<bool>, NoMemory>
-    requires { IsIndex (triples_seen graph.now) index.now }
+    requires { IsTripleIndex (triples_seen graph.now) index.now }
     ensures { IfOk result (λ marks. AreInner (triples_seen graph.now) index.now marks.items) }
 {
     let uses = object_rows(alloc, graph, index)?;
@@ -58,7 +58,7 @@ pub(crate) fn cell_nodes(
     inner: &[bool],
     places: &Rows,
 ) -> Result<Vec<bool>, NoMemory>
-    requires nodes { IsIndex (triples_seen graph.now) index.now }
+    requires nodes { IsTripleIndex (triples_seen graph.now) index.now }
     requires inner { AreInner (triples_seen graph.now) index.now inner.now }
     requires places { places.now ≡ subject_rows (triples_seen graph.now) index.now }
     ensures { IfOk result (λ marks. AreCells (triples_seen graph.now) index.now marks.items) }

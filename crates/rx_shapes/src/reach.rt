@@ -1,6 +1,6 @@
 //! Numbers that are reached, each once.
 ghost use Rattle.std.specs.Prelude.{◌≡◌, ◌<◌, [], true, length, IfOk, OnOk, get_or, slice_get, Some};
-ghost use Rattle.rx_shapes.specs.Reach.{marked, reach_added, reach_all, unreached};
+ghost use Rattle.rx_shapes.specs.Reach.{reach_added, reach_all, reach_marked, unreached};
 
 use rx_terms::NoMemory;
 use std::alloc::Global;
@@ -62,7 +62,7 @@ impl Reached {
 
     fn mark(&mut self, number: usize) -> Result<(), NoMemory>
         requires { number < length self.old.marks }
-        ensures { OnOk result (self.new ≡ marked self.old number) }
+        ensures { OnOk result (self.new ≡ reach_marked self.old number) }
     {
         self.list.push(number)?;
         self.marks[number] = true;

@@ -2,7 +2,7 @@
 ghost use Rattle.std.specs.Prelude.{◌≡◌, IfOk, Some};
 ghost use Rattle.rx_model.specs.Seen.{node_seen, triples_seen};
 ghost use Rattle.rx_graph.specs.Resources.{number_in};
-ghost use Rattle.rx_shapes.specs.Links.{IsIndex, AreNumbered, subject_rows, shape_by, shapes_by};
+ghost use Rattle.rx_shapes.specs.Links.{IsTripleIndex, AreNodeShapes, subject_rows, shape_by, shapes_by};
 ghost use Rattle.rx_shapes.specs.Table.{AreShapes, shape_at, shape_in, places_in};
 
 use crate::index::Index;
@@ -33,9 +33,9 @@ pub struct Shapes {
 }
 
 impl Model for Shapes {
-    ghost use Rattle.rx_shapes.specs.Table.{Table};
+    ghost use Rattle.rx_shapes.specs.Table.{ShapeTable};
 
-    ghost Value = { Table };
+    ghost Value = { ShapeTable };
 
     ghost view = { λ s. record { nodes = s.nodes; places = s.places; shapes = s.shapes.items } };
 }
@@ -105,9 +105,9 @@ fn shapes_of(
     nodes: &Index,
     places: &Rows,
 ) -> Result<Vec<Shape>, NoMemory>
-    requires nodes { IsIndex (triples_seen graph.now) nodes.now }
+    requires nodes { IsTripleIndex (triples_seen graph.now) nodes.now }
     requires places { places.now ≡ subject_rows (triples_seen graph.now) nodes.now }
-    ensures { IfOk result (λ shapes. AreNumbered (triples_seen graph.now) nodes.now shapes.items) }
+    ensures { IfOk result (λ shapes. AreNodeShapes (triples_seen graph.now) nodes.now shapes.items) }
 {
     let inner = inner_nodes(alloc, graph, nodes)?;
     let cells = cell_nodes(alloc, graph, nodes, &inner, places)?;

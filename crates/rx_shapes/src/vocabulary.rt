@@ -1,16 +1,9 @@
 //! RDF's vocabulary for lists and types.
-ghost use Rattle.std.specs.Prelude.{◌≡◌, true, bytes_eq};
-ghost use Rattle.rx_model.specs.Common.{list_all, is_ascii, rdf_type, rdf_first, rdf_rest, rdf_nil};
+ghost use Rattle.std.specs.Prelude.{◌≡◌, bytes_eq};
+ghost use Rattle.rx_model.specs.Common.{rdf_type, rdf_first, rdf_rest, rdf_nil};
 
+use rx_model::{RDF_FIRST, RDF_NIL, RDF_REST, RDF_TYPE, is};
 use rx_terms::Iri;
-
-const RDF_TYPE: &str = "http://www.w3.org/1999/02/22-rdf-syntax-ns#type";
-
-const RDF_FIRST: &str = "http://www.w3.org/1999/02/22-rdf-syntax-ns#first";
-
-const RDF_REST: &str = "http://www.w3.org/1999/02/22-rdf-syntax-ns#rest";
-
-const RDF_NIL: &str = "http://www.w3.org/1999/02/22-rdf-syntax-ns#nil";
 
 /// Whether the IRI is rdf:type, which says of what class a node is (RDF Schema 1.1, 3.3).
 pub fn is_type(iri: &Iri) -> bool
@@ -38,12 +31,4 @@ pub fn is_nil(iri: &Iri) -> bool
     ensures { result ≡ bytes_eq iri.now rdf_nil }
 {
     is(iri, RDF_NIL)
-}
-
-/// Whether the IRI is this one, of ASCII.
-fn is(iri: &Iri, name: &str) -> bool
-    requires { list_all is_ascii name.now ≡ true }
-    ensures { result ≡ bytes_eq iri.now name.now }
-{
-    iri.as_str() == name
 }

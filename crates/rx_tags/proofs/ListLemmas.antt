@@ -5,9 +5,9 @@ use Rattle.rx_reader.specs.declared.phases.RunPhase.TheVariants as run
 use Rattle.rx_reader.specs.declared.phases.TagPhase.TheVariants as phase
 use Rattle.rx_tags.specs.declared.attributes.AttributeSpan.{AttributeSpan}
 use Rattle.rx_tags.specs.Fronts.{TakesFront}
-use Rattle.rx_tags.specs.Lists.{only, ListsTo, MarksList, AddsRow}
-use Rattle.rx_tags.specs.Pairs.{Pairs, no_pairs, pairs_read, IsPending}
-use Rattle.rx_tags.specs.Reading.{Reading, piece, row_read, rows_read, read_as, RowsFit, Fits, begun_behind, nothing_read}
+use Rattle.rx_tags.specs.Lists.{only_whole, ListsTo, MarksList, AddsRow}
+use Rattle.rx_tags.specs.Pairs.{Pairs, no_pairs, pairs_read, IsPendingRun}
+use Rattle.rx_tags.specs.Reading.{AttributeReading, piece, row_read, rows_read, read_as, RowsFit, SpansFit, begun_behind, nothing_read}
 use Rattle.rx_tags.specs.TagReads.{state_of}
 use Rattle.rx_tags.proofs.OnLemmas.{skips}
 use Rattle.rx_tags.proofs.Pieces.{piece_on, drop_two, rows_on, rows_fit_on, rows_fit_append, nothing_past, fresh}
@@ -87,18 +87,18 @@ module _ (bytes : List ℕ) (at : ℕ) (rows new : List AttributeSpan) (n : ℕ)
         value = subst IsUtf8 (sym value_is) (ascii-utf8 value (plain_ascii value a.whole.plain));
       }))
 
-  read : (s : Syntax) (tag : Chars) → TakesFront s (state_of phase.Gap tag no_pairs) bytes (at + all) (state_of phase.AfterValue tag (only (rows_read (take at bytes) rows ++ (name, value) ∷ [])))
+  read : (s : Syntax) (tag : Chars) → TakesFront s (state_of phase.Gap tag no_pairs) bytes (at + all) (state_of phase.AfterValue tag (only_whole (rows_read (take at bytes) rows ++ (name, value) ∷ [])))
   read s tag =
       let w : List Attribute = rows_read (take at bytes) rows in
-      let more = whole_front s tag (only w) (only (w ++ (name, value) ∷ [])) rest a.name a.value a.whole refl phase.Gap refl (record { is = refl }) in
-      takes_then s (state_of phase.Gap tag no_pairs) (state_of phase.Gap tag (only w)) (state_of phase.AfterValue tag (only (w ++ (name, value) ∷ []))) bytes at all l (m.lists s tag)
-      (subst (λ (x : List ℕ). TakesFront s (state_of phase.Gap tag (only w)) x all (state_of phase.AfterValue tag (only (w ++ (name, value) ∷ [])))) (sym (take_rest bytes at)) more)
+      let more = whole_front s tag (only_whole w) (only_whole (w ++ (name, value) ∷ [])) rest a.name a.value a.whole refl phase.Gap refl (record { is = refl }) in
+      takes_then s (state_of phase.Gap tag no_pairs) (state_of phase.Gap tag (only_whole w)) (state_of phase.AfterValue tag (only_whole (w ++ (name, value) ∷ []))) bytes at all l (m.lists s tag)
+      (subst (λ (x : List ℕ). TakesFront s (state_of phase.Gap tag (only_whole w)) x all (state_of phase.AfterValue tag (only_whole (w ++ (name, value) ∷ [])))) (sym (take_rest bytes at)) more)
 
   pub row_added : MarksList phase.AfterValue bytes n new
   row_added = record {
     fit = fits;
-    lists = λ s tag. subst (λ (x : ℕ). TakesFront s (state_of phase.Gap tag no_pairs) bytes x (state_of phase.AfterValue tag (only (rows_read (take n bytes) new)))) (sym a.behind)
-        (subst (λ (x : List Attribute). TakesFront s (state_of phase.Gap tag no_pairs) bytes (at + all) (state_of phase.AfterValue tag (only x))) (sym rows_are) (read s tag));
+    lists = λ s tag. subst (λ (x : ℕ). TakesFront s (state_of phase.Gap tag no_pairs) bytes x (state_of phase.AfterValue tag (only_whole (rows_read (take n bytes) new)))) (sym a.behind)
+        (subst (λ (x : List Attribute). TakesFront s (state_of phase.Gap tag no_pairs) bytes (at + all) (state_of phase.AfterValue tag (only_whole x))) (sym rows_are) (read s tag));
   }
 
 -- the space behind it
@@ -110,14 +110,14 @@ space_added bytes n rows m k e =
     let w : List Attribute = rows_read (take n bytes) rows in
     record {
       fit = subst (λ (t : List ℕ). RowsFit t (n + 1) rows) (sym grown) (rows_fit_on (take n bytes) (take 1 (drop n bytes)) n (n + 1) rows before (omega arith) m.fit);
-      lists = λ s tag. subst (λ (x : List Attribute). TakesFront s (state_of phase.Gap tag no_pairs) bytes (n + 1) (state_of phase.Gap tag (only x))) (sym same)
-          (taken_at s (state_of phase.Gap tag no_pairs) (state_of phase.AfterValue tag (only w)) (state_of phase.Gap tag (only w)) bytes n 32 k e (m.lists s tag) refl
-          (skips s phase.AfterValue phase.Gap tag (only w) 32 (record { move = λ x. refl; unfinished = refl; printed = refl; outside = refl })));
+      lists = λ s tag. subst (λ (x : List Attribute). TakesFront s (state_of phase.Gap tag no_pairs) bytes (n + 1) (state_of phase.Gap tag (only_whole x))) (sym same)
+          (taken_at s (state_of phase.Gap tag no_pairs) (state_of phase.AfterValue tag (only_whole w)) (state_of phase.Gap tag (only_whole w)) bytes n 32 k e (m.lists s tag) refl
+          (skips s phase.AfterValue phase.Gap tag (only_whole w) 32 (record { move = λ x. refl; unfinished = refl; printed = refl; outside = refl })));
     }
 
 -- the copied bytes with their rows
 pub listed : (text bytes : List ℕ) (n : ℕ) (rows : List AttributeSpan) → RowsFit (take n bytes) n rows → n ≤ length bytes → text ≡ take n bytes
-    → Fits text rows n n n × (read_as text rows n n n ≡ begun_behind (rows_read text rows) [])
+    → SpansFit text rows n n n × (read_as text rows n n n ≡ begun_behind (rows_read text rows) [])
 listed text bytes n rows m k e =
     let count : n ≡ length text = sym (ap length e ∙ length-take-le n bytes k) in
     let past = nothing_past text n count in
@@ -144,7 +144,7 @@ pub lists_text : (text bytes : List ℕ) (n : ℕ) (rows : List AttributeSpan) �
 lists_text text bytes n rows m e = subst (λ (t : List ℕ). ListsTo phase.AfterValue bytes n (rows_read t rows)) (sym e) m.lists
 
 -- an empty buffer has read nothing
-pub nothing_in : (text : List ℕ) (rows : List AttributeSpan) (start middle end : ℕ) → Fits text rows start middle end → length text ≡ 0 → length rows ≡ 0 → read_as text rows start middle end ≡ nothing_read
+pub nothing_in : (text : List ℕ) (rows : List AttributeSpan) (start middle end : ℕ) → SpansFit text rows start middle end → length text ≡ 0 → length rows ≡ 0 → read_as text rows start middle end ≡ nothing_read
 nothing_in [] [] start middle end f t r =
     let a : start ≡ 0 = omega (arith, f.rises, f.on, f.within) in
     let b : middle ≡ 0 = omega (arith, f.rises, f.on, f.within) in
@@ -154,14 +154,14 @@ nothing_in [] (x ∷ rows) start middle end f t r = absurd (omega (arith, r))
 nothing_in (x ∷ text) rows start middle end f t r = absurd (omega (arith, t))
 
 -- where nothing was read no run is
-pub none_pairs : (p : RunPhase) (r : Reading) → IsPending p r.pending → r ≡ nothing_read → pairs_read p r ≡ no_pairs
+pub none_pairs : (p : RunPhase) (r : AttributeReading) → IsPendingRun p r.pending → r ≡ nothing_read → pairs_read p r ≡ no_pairs
 none_pairs run.Plain r k e = ap (pairs_read run.Plain) e
-none_pairs _ r k e = absurd (let z = sym (ap (λ (x : Reading). x.pending) e) ∙ k.0 in cc)
+none_pairs _ r k e = absurd (let z = sym (ap (λ (x : AttributeReading). x.pending) e) ∙ k.0 in cc)
 
-module _ (p : RunPhase) (r : Reading) (k : IsPending p r.pending) (e : pairs_read p r ≡ no_pairs) where
+module _ (p : RunPhase) (r : AttributeReading) (k : IsPendingRun p r.pending) (e : pairs_read p r ≡ no_pairs) where
   is_plain : p ≡ run.Plain
   is_plain = ap (λ (x : Pairs). x.value.phase) e
 
   -- behind the list nothing is read
-  pub listed_pairs : (new : Reading) → new ≡ begun_behind new.whole [] → pairs_read p new ≡ only new.whole
+  pub listed_pairs : (new : AttributeReading) → new ≡ begun_behind new.whole [] → pairs_read p new ≡ only_whole new.whole
   listed_pairs new q = ap (λ (x : RunPhase). pairs_read x new) is_plain ∙ ap (pairs_read run.Plain) q

@@ -2,12 +2,12 @@
 use Rattle.rx_grammar.proofs.Common.{◌≡◌, ◌∙◌, sym, ap, ap₂, refl, ℕ, ◌+◌, ◌<◌, List, [], ◌∷◌, length, take, Bool, true, false, get_or, eqb-true, inl, inr, ◌==◌, ◌||◌, nat_eq, slice_set, and_parts, eqb-false, get_or-set_other, by_test, either, not_both_ways, get_or-set_at, same}
 use Rattle.rx_tags.specs.declared.attributes.AttributeSpan.{AttributeSpan}
 use Rattle.rx_tags.specs.Reading.{piece}
-use Rattle.rx_tags.specs.Repeats.{is_named, mark_of}
+use Rattle.rx_tags.specs.Repeats.{mark_of, row_has_name}
 use Rattle.rx_tags.proofs.RepeatLemmas.{at, names_turn}
 
 -- the mark of each name of these rows stands
 abbrev pub Marked : List ℕ → List AttributeSpan → List Bool → Type 0
-Marked text rows marks = (name : List ℕ) → is_named text rows name ≡ true → get_or marks (mark_of name) false ≡ true
+Marked text rows marks = (name : List ℕ) → row_has_name text rows name ≡ true → get_or marks (mark_of name) false ≡ true
 
 same_is : (a b : List ℕ) → same a b ≡ true → a ≡ b
 same_is [] [] h = refl
@@ -23,12 +23,12 @@ pub marks_turn : (text : List ℕ) (rows : List AttributeSpan) (i m : ℕ) (mark
     → m ≡ mark_of (piece text (at rows i).start (at rows i).middle) → Marked text (take (i + 1) rows) (slice_set marks m true)
 marks_turn text rows i m marks h l k e name is =
     let own = piece text (at rows i).start (at rows i).middle in
-    let told : (same own name || is_named text (take i rows) name) ≡ true = names_turn text rows i name (is_named text (take i rows) name) (same own name || is_named text (take i rows) name) h refl refl ∙ is in
-    elim (either (same own name) (is_named text (take i rows) name) told) [
+    let told : (same own name || row_has_name text (take i rows) name) ≡ true = names_turn text rows i name (row_has_name text (take i rows) name) (same own name || row_has_name text (take i rows) name) h refl refl ∙ is in
+    elim (either (same own name) (row_has_name text (take i rows) name) told) [
       | inl a ↦ get_or-set_at marks m (mark_of name) true false (ap mark_of (sym (same_is own name a)) ∙ sym e) l
       | inr b ↦ stays marks m (mark_of name) l (k name b)
     ]
 
 -- a name whose mark doesn't stand is in no row
-pub unmarked : (text : List ℕ) (rows : List AttributeSpan) (marks : List Bool) (name : List ℕ) → Marked text rows marks → get_or marks (mark_of name) false ≡ false → is_named text rows name ≡ false
-unmarked text rows marks name k h = by_test (is_named text rows name) (λ e. absurd (not_both_ways (get_or marks (mark_of name) false) (k name e) h)) (λ e. e)
+pub unmarked : (text : List ℕ) (rows : List AttributeSpan) (marks : List Bool) (name : List ℕ) → Marked text rows marks → get_or marks (mark_of name) false ≡ false → row_has_name text rows name ≡ false
+unmarked text rows marks name k h = by_test (row_has_name text rows name) (λ e. absurd (not_both_ways (get_or marks (mark_of name) false) (k name e) h)) (λ e. e)

@@ -3,19 +3,19 @@ use Rattle.rx_reader.proofs.Common.{◌≡◌, ◌∙◌, ℕ, ◌+◌, ◌-◌,
 use Rattle.rx_reader.specs.declared.phases.TagPhase.{TagPhase}
 use Rattle.rx_reader.specs.declared.phases.TagPhase.TheVariants as phase
 use Rattle.rx_reader.specs.declared.phases.TagAction.TheVariants as action
-use Rattle.rx_tags.specs.Fronts.{is_printed, ends_value, Skips, GoesTo, TakesFront, TakesOn}
+use Rattle.rx_tags.specs.Fronts.{is_printed, ends_value, SkipsCharacter, GoesTo, TakesFront, TakesOn}
 use Rattle.rx_tags.specs.declared.pairs.TagError.{TagError}
 use Rattle.rx_tags.specs.Pairs.{Pairs, AddGives}
 use Rattle.rx_tags.specs.TagReads.{state_of}
 use Rattle.rx_tags.proofs.TakeLemmas.{checked_open, takes_one, takes_then}
 
-pub skips : (s : Syntax) (p next : TagPhase) (name : Chars) (pairs : Pairs) (c : ℕ) → Skips p c next → GoesTo s (state_of p name pairs) c (state_of next name pairs)
+pub skips : (s : Syntax) (p next : TagPhase) (name : Chars) (pairs : Pairs) (c : ℕ) → SkipsCharacter p c next → GoesTo s (state_of p name pairs) c (state_of next name pairs)
 skips s p next name pairs c h = (
   ap (λ (m : Move). checked s (moved s (meaning s) (state_of p name pairs) c m)) (h.move s) ∙ checked_open s (state_of next name pairs) h.unfinished,
   h.unfinished,
 )
 
-pub skipped : (s : Syntax) (p next : TagPhase) (name : Chars) (pairs : Pairs) (bytes : List ℕ) (i : ℕ) → i < length bytes → Skips p (get_or bytes i 0) next
+pub skipped : (s : Syntax) (p next : TagPhase) (name : Chars) (pairs : Pairs) (bytes : List ℕ) (i : ℕ) → i < length bytes → SkipsCharacter p (get_or bytes i 0) next
     → TakesOn s (state_of p name pairs) bytes i (i + 1) (state_of next name pairs)
 skipped s p next name pairs bytes i k h start f =
     takes_one s start (state_of p name pairs) (state_of next name pairs) bytes i k f h.printed (skips s p next name pairs (get_or bytes i 0) h)

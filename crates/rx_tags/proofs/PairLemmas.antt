@@ -1,5 +1,5 @@
 -- What the moves of a value do is what the reader does.
-use Rattle.rx_reader.proofs.Common.{◌≡◌, ◌∙◌, sym, ap, subst, refl, Some, None, ℕ, true, false, [], ◌∷◌, ◌++◌, Option, Result, Ok, Err, arith, ◌==◌, if◌then◌else◌, nat_tests, and_parts, and_from, list_all, ascii-same, ampersand, number_sign, semicolon, is_ascii, is_letter, is_digit, is_letter_or_digit, Chars, by_test, split, encode_utf8_all, OnOk, OnErr, Syntax, Html, Xhtml, is_plain, is_x, is_hexadecimal_digit, Kind, StrictText, run_move, Value, no_meaning, known_as, plain_step, meant, run_step, value_step, value_end, is_run}
+use Rattle.rx_reader.proofs.Common.{◌≡◌, ◌∙◌, sym, ap, subst, refl, Some, None, ℕ, true, false, [], ◌∷◌, ◌++◌, Option, Result, Ok, Err, arith, ◌==◌, if◌then◌else◌, nat_tests, and_parts, and_from, list_all, ascii-same, ampersand, number_sign, semicolon, is_ascii, is_letter, is_digit, is_letter_or_digit, Chars, by_test, split, encode_utf8_all, OnOk, OnErr, Syntax, Html, Xhtml, is_plain, is_x, is_hexadecimal_digit, Kind, StrictText, run_move, PartialValue, no_meaning, known_as, plain_step, meant, run_step, value_step, value_end, is_run}
 use Rattle.std.proofs.lemmas.List.{append-nil, append_assoc}
 use Rattle.std.specs.Result.{is_err}
 use Rattle.rx_terms.specs.declared.texts.NoMemory.{NoMemory}
@@ -10,21 +10,21 @@ use Rattle.rx_reader.specs.declared.phases.RunMove.TheVariants as reader
 use Rattle.rx_tags.specs.declared.values.ValueMove.{ValueMove}
 use Rattle.rx_tags.specs.declared.values.ValueMove.TheVariants.{Begins, Is, Goes, Closes, Bad}
 use Rattle.rx_tags.specs.ValueMoves.{plain_move, of_run, value_move}
-use Rattle.rx_tags.specs.Pairs.{after_first, IsPending, may_end}
+use Rattle.rx_tags.specs.Pairs.{after_first, IsPendingRun, may_end}
 
 -- what a move does to a value; `text` is the value with a run before the character
-abbrev pub applied : (Chars → Option ℕ) → Value → Chars → ℕ → ValueMove → Result Value Kind
+abbrev pub applied : (Chars → Option ℕ) → PartialValue → Chars → ℕ → ValueMove → Result PartialValue Kind
 applied means value text c Begins = Ok (record { phase = run.Ampersand; known = text; run = [] })
 applied means value text c (Is given) = Ok (known_as (text ++ given ∷ []))
 applied means value text c (Goes phase) = Ok (record { phase = phase; known = value.known; run = value.run ++ c ∷ [] })
 applied means value text c Closes = meant value (means value.run)
 applied means value text c Bad = Err StrictText
 
-plain_law : (s : Syntax) (means : Chars → Option ℕ) (value : Value) (text : Chars) (c : ℕ) → plain_step s text c ≡ applied means value text c (plain_move s c)
+plain_law : (s : Syntax) (means : Chars → Option ℕ) (value : PartialValue) (text : Chars) (c : ℕ) → plain_step s text c ≡ applied means value text c (plain_move s c)
 plain_law s means value text c =
     by_test (c == ampersand) (λ e. rw (e) refl) (λ e. by_test (is_plain s c) (λ f. rw (e, f) refl) (λ f. rw (e, f) refl))
 
-of_run_law : (s : Syntax) (means : Chars → Option ℕ) (value : Value) (text : Chars) (c : ℕ) (m : RunMove) → value.known ++ ampersand ∷ value.run ≡ text
+of_run_law : (s : Syntax) (means : Chars → Option ℕ) (value : PartialValue) (text : Chars) (c : ℕ) (m : RunMove) → value.known ++ ampersand ∷ value.run ≡ text
     → run_step s means value c m ≡ applied means value text c (of_run s c m)
 of_run_law s means value text c (reader.Goes q) e = refl
 of_run_law Html means value text c reader.Stops e = ap (λ t. plain_step Html t c) e ∙ plain_law Html means value text c
@@ -33,7 +33,7 @@ of_run_law _ means value text c _ e = refl
 in_run : (known pending : Chars) → pending ≡ ampersand ∷ after_first pending → known ++ ampersand ∷ after_first pending ≡ known ++ pending
 in_run known pending e = ap (λ rest. known ++ rest) (sym e)
 
-pub step_law : (s : Syntax) (means : Chars → Option ℕ) (p : RunPhase) (known pending : Chars) (c : ℕ) → IsPending p pending
+pub step_law : (s : Syntax) (means : Chars → Option ℕ) (p : RunPhase) (known pending : Chars) (c : ℕ) → IsPendingRun p pending
     → value_step s means (record { phase = p; known = known; run = after_first pending }) c
     ≡ applied means (record { phase = p; known = known; run = after_first pending }) (known ++ pending) c (value_move s p c)
 step_law s means run.Plain known pending c h =
@@ -79,11 +79,11 @@ of_run_grows _ p c _ h = tt
 pub move_grows : (s : Syntax) (p : RunPhase) (c : ℕ) → GrowsByMove p c (value_move s p c)
 move_grows s p c = split (GrowsByMove p c) (is_run p) _ _ (λ e. of_run_grows s p c (run_move p c) (grows p c)) (λ e. plain_no_run s p c)
 
-pub pending_of : (p : RunPhase) (pending : Chars) → is_run p ≡ true → IsPending p pending → (pending ≡ ampersand ∷ after_first pending) × (list_all is_ascii (after_first pending) ≡ true)
+pub pending_of : (p : RunPhase) (pending : Chars) → is_run p ≡ true → IsPendingRun p pending → (pending ≡ ampersand ∷ after_first pending) × (list_all is_ascii (after_first pending) ≡ true)
 pending_of run.Plain pending h k = absurd (cc)
 pending_of _ pending h k = k
 
-pending_from : (p : RunPhase) (pending : Chars) → is_run p ≡ true → (pending ≡ ampersand ∷ after_first pending) × (list_all is_ascii (after_first pending) ≡ true) → IsPending p pending
+pending_from : (p : RunPhase) (pending : Chars) → is_run p ≡ true → (pending ≡ ampersand ∷ after_first pending) × (list_all is_ascii (after_first pending) ≡ true) → IsPendingRun p pending
 pending_from run.Plain pending h k = absurd (cc)
 pending_from _ pending h k = k
 
@@ -95,8 +95,8 @@ after_more : (pending : Chars) (c : ℕ) → pending ≡ ampersand ∷ after_fir
 after_more [] c h = absurd (cc)
 after_more (d ∷ pending) c h = refl
 
-pub goes_pending : (s : Syntax) (p q : RunPhase) (pending : Chars) (c : ℕ) → IsPending p pending → value_move s p c ≡ Goes q
-    → IsPending q (pending ++ c ∷ []) × (after_first (pending ++ c ∷ []) ≡ after_first pending ++ c ∷ [])
+pub goes_pending : (s : Syntax) (p q : RunPhase) (pending : Chars) (c : ℕ) → IsPendingRun p pending → value_move s p c ≡ Goes q
+    → IsPendingRun q (pending ++ c ∷ []) × (after_first (pending ++ c ∷ []) ≡ after_first pending ++ c ∷ [])
 goes_pending s p q pending c h e =
     let g : Grows p q c = subst (GrowsByMove p c) e (move_grows s p c) in
     let k = pending_of p pending g.from h in
@@ -119,7 +119,7 @@ closes_run : (s : Syntax) (p : RunPhase) (c : ℕ) → ClosesRun p (value_move s
 closes_run s p c = split (ClosesRun p) (is_run p) _ _ (λ e. of_run_closes s p c (run_move p c) e) (λ e. plain_open s p c)
 
 -- where a run closes, its bytes are its characters
-pub run_is : (s : Syntax) (p : RunPhase) (pending : Chars) (c : ℕ) → IsPending p pending → value_move s p c ≡ Closes → encode_utf8_all pending ≡ ampersand ∷ after_first pending
+pub run_is : (s : Syntax) (p : RunPhase) (pending : Chars) (c : ℕ) → IsPendingRun p pending → value_move s p c ≡ Closes → encode_utf8_all pending ≡ ampersand ∷ after_first pending
 run_is s p pending c h e =
     let r : is_run p ≡ true = subst (ClosesRun p) e (closes_run s p c) in
     let k = pending_of p pending r h in
@@ -138,7 +138,7 @@ pub pushed_value : (known pending : Chars) (c : ℕ) → known_as ((known ++ pen
 pushed_value known pending c = ap known_as (append_assoc known pending (c ∷ []))
 
 -- the value that ends
-pub ends_as : (s : Syntax) (p : RunPhase) (known pending : Chars) → IsPending p pending → may_end s p ≡ true → value_end s (record { phase = p; known = known; run = after_first pending }) ≡ Ok (known ++ pending)
+pub ends_as : (s : Syntax) (p : RunPhase) (known pending : Chars) → IsPendingRun p pending → may_end s p ≡ true → value_end s (record { phase = p; known = known; run = after_first pending }) ≡ Ok (known ++ pending)
 ends_as s run.Plain known pending h k = ap Ok (sym (append-nil known) ∙ ap (λ rest. known ++ rest) (sym h))
 ends_as Xhtml run.Ampersand known pending h k = absurd (cc)
 ends_as Xhtml run.Named known pending h k = absurd (cc)
@@ -149,13 +149,13 @@ ends_as Xhtml run.Hexadecimal known pending h k = absurd (cc)
 ends_as Html _ known pending h k = ap Ok (in_run known pending h.0)
 
 -- a reference that stands for nothing, and for a character
-pub closes_none : (s : Syntax) (means : Chars → Option ℕ) (p : RunPhase) (known pending body : Chars) (c : ℕ) → IsPending p pending → value_move s p c ≡ Closes → body ≡ after_first pending → means body ≡ None
+pub closes_none : (s : Syntax) (means : Chars → Option ℕ) (p : RunPhase) (known pending body : Chars) (c : ℕ) → IsPendingRun p pending → value_move s p c ≡ Closes → body ≡ after_first pending → means body ≡ None
     → value_step s means (record { phase = p; known = known; run = after_first pending }) c ≡ Err (no_meaning p)
 closes_none s means p known pending body c h e b n =
     step_law s means p known pending c h ∙ ap (applied means (record { phase = p; known = known; run = after_first pending }) (known ++ pending) c) e
     ∙ ap (meant (record { phase = p; known = known; run = after_first pending })) (ap means (sym b) ∙ n)
 
-pub closes_some : (s : Syntax) (means : Chars → Option ℕ) (p : RunPhase) (known pending body : Chars) (c given : ℕ) → IsPending p pending → value_move s p c ≡ Closes → body ≡ after_first pending → means body ≡ Some given
+pub closes_some : (s : Syntax) (means : Chars → Option ℕ) (p : RunPhase) (known pending body : Chars) (c given : ℕ) → IsPendingRun p pending → value_move s p c ≡ Closes → body ≡ after_first pending → means body ≡ Some given
     → value_step s means (record { phase = p; known = known; run = after_first pending }) c ≡ Ok (known_as (known ++ given ∷ []))
 closes_some s means p known pending body c given h e b n =
     step_law s means p known pending c h ∙ ap (applied means (record { phase = p; known = known; run = after_first pending }) (known ++ pending) c) e

@@ -2,7 +2,7 @@
 use Rattle.rx_terms.proofs.Common.{◌≡◌, ◌∙◌, sym, ap, refl, ℕ, ◌+◌, ◌-◌, ◌≤◌, ◌<◌, List, [], ◌∷◌, ◌++◌, length, take, drop, arith, encode_utf8, zero, suc, slice_get, get_or, Some, true, chars, IsUtf8, IsScalar, list_all, chars-append, chars_past_char, chars-nil, encodes-chars, IsUtf8-append, IsUtf8-encode, IsUtf8-nil, ascii-utf8, ascii-chars, is_ascii, Chars, encode_utf8_all, common_steps}
 use Rattle.std.proofs.lemmas.List.{take-append-drop, length-drop, length-take, map-append, take-append-le, drop-append-le, length-append, append_assoc, append-nil}
 use Rattle.rx_tags.specs.declared.attributes.AttributeSpan.{AttributeSpan}
-use Rattle.rx_tags.specs.Reading.{Reading, piece, row_read, rows_read, read_as, RowFits, RowsFit, Fits, nothing_read}
+use Rattle.rx_tags.specs.Reading.{AttributeReading, piece, row_read, rows_read, read_as, RowFits, RowsFit, SpansFit, nothing_read}
 
 take_all : (n : ℕ) (text : List ℕ) → n ≡ length text → take n text ≡ text
 take_all n text h = grind (arith, common_steps)
@@ -67,8 +67,8 @@ pub nothing_past : (text : List ℕ) (n : ℕ) → n ≡ length text → IsUtf8 
 nothing_past text n h = let e = drop_all n text h in (rw e IsUtf8-nil, rw e chars-nil)
 
 -- the value's front alone: the text is cut where the run begins
-pub cut_back : (text : List ℕ) (rows : List AttributeSpan) (start middle end : ℕ) → Fits text rows start middle end
-    → Fits (take end text) rows start middle end
+pub cut_back : (text : List ℕ) (rows : List AttributeSpan) (start middle end : ℕ) → SpansFit text rows start middle end
+    → SpansFit (take end text) rows start middle end
     × (read_as (take end text) rows start middle end ≡ record { whole = rows_read text rows; key = chars (piece text start middle); known = chars (piece text middle end); pending = [] })
 cut_back text rows start middle end f =
     let e : take end text ++ drop end text ≡ text = take-append-drop end text in
@@ -99,11 +99,11 @@ one_char : (c : ℕ) → IsScalar c → chars (encode_utf8 c) ≡ c ∷ []
 one_char c s = chars_past_char (encode_utf8 c) [] c (IsUtf8-encode c s) (sym (append-nil (encode_utf8 c))) ∙ ap (λ rest. c ∷ rest) chars-nil
 
 -- more of the value
-abbrev read_on : Reading → Chars → Reading
+abbrev read_on : AttributeReading → Chars → AttributeReading
 read_on r more = record { whole = r.whole; key = r.key; known = r.known ++ (r.pending ++ more); pending = [] }
 
 -- more of the name
-abbrev key_on : Reading → Chars → Reading
+abbrev key_on : AttributeReading → Chars → AttributeReading
 key_on r more = record { whole = r.whole; key = r.key ++ more; known = r.known; pending = r.pending }
 
 pub with_char : (bs : List ℕ) (c : ℕ) → IsUtf8 bs → IsScalar c → IsUtf8 (bs ++ encode_utf8 c) × (chars (bs ++ encode_utf8 c) ≡ chars bs ++ c ∷ [])
@@ -111,15 +111,15 @@ with_char bs c u s =
     (IsUtf8-append bs (encode_utf8 c) u (IsUtf8-encode c s), chars-append bs (encode_utf8 c) u ∙ ap (λ rest. chars bs ++ rest) (one_char c s))
 
 -- what stands from the value's begin on: what is known, and then the run
-pub from_middle : (text : List ℕ) (rows : List AttributeSpan) (start middle end : ℕ) → Fits text rows start middle end
+pub from_middle : (text : List ℕ) (rows : List AttributeSpan) (start middle end : ℕ) → SpansFit text rows start middle end
     → IsUtf8 (drop middle text) × (chars (drop middle text) ≡ chars (piece text middle end) ++ chars (drop end text))
 from_middle text rows start middle end f =
     let e = piece_then text middle end f.on in
     (rw e (IsUtf8-append _ _ f.known f.pending), ap chars e ∙ chars-append _ _ f.known)
 
-pub pushed_all : (text grown : List ℕ) (rows : List AttributeSpan) (start middle end n : ℕ) (more : List ℕ) → Fits text rows start middle end → IsUtf8 more
+pub pushed_all : (text grown : List ℕ) (rows : List AttributeSpan) (start middle end n : ℕ) (more : List ℕ) → SpansFit text rows start middle end → IsUtf8 more
     → grown ≡ text ++ more → n ≡ length grown
-    → Fits grown rows start middle n
+    → SpansFit grown rows start middle n
     × (read_as grown rows start middle n ≡ record { whole = rows_read text rows; key = chars (piece text start middle); known = chars (piece text middle end) ++ (chars (drop end text) ++ chars more); pending = [] })
 pushed_all text grown rows start middle end n more f u g h =
     let within : middle ≤ length text = omega (arith, f.on, f.within) in
@@ -147,27 +147,27 @@ pushed_all text grown rows start middle end n more f u g h =
       },
     )
 
-pub pushed : (text grown : List ℕ) (rows : List AttributeSpan) (start middle end n c : ℕ) → Fits text rows start middle end → IsScalar c
+pub pushed : (text grown : List ℕ) (rows : List AttributeSpan) (start middle end n c : ℕ) → SpansFit text rows start middle end → IsScalar c
     → grown ≡ text ++ encode_utf8 c → n ≡ length grown
-    → Fits grown rows start middle n
+    → SpansFit grown rows start middle n
     × (read_as grown rows start middle n ≡ record { whole = rows_read text rows; key = chars (piece text start middle); known = chars (piece text middle end) ++ (chars (drop end text) ++ c ∷ []); pending = [] })
 pushed text grown rows start middle end n c f s g h =
     let all = pushed_all text grown rows start middle end n (encode_utf8 c) f (IsUtf8-encode c s) g h in
     (all.0, all.1 ∙ ap (λ (more : List ℕ). read_on (read_as text rows start middle end) more) (one_char c s))
 
 -- characters of ASCII are their bytes
-pub pushed_ascii : (text grown : List ℕ) (rows : List AttributeSpan) (start middle end n : ℕ) (more : List ℕ) → Fits text rows start middle end → list_all is_ascii more ≡ true
+pub pushed_ascii : (text grown : List ℕ) (rows : List AttributeSpan) (start middle end n : ℕ) (more : List ℕ) → SpansFit text rows start middle end → list_all is_ascii more ≡ true
     → grown ≡ text ++ more → n ≡ length grown
-    → Fits grown rows start middle n
+    → SpansFit grown rows start middle n
     × (read_as grown rows start middle n ≡ record { whole = rows_read text rows; key = chars (piece text start middle); known = chars (piece text middle end) ++ (chars (drop end text) ++ more); pending = [] })
 pushed_ascii text grown rows start middle end n more f a g h =
     let all = pushed_all text grown rows start middle end n more f (ascii-utf8 more a) g h in
     (all.0, all.1 ∙ ap (λ (x : List ℕ). read_on (read_as text rows start middle end) x) (ascii-chars more a))
 
 -- a run begins
-pub begun : (text grown : List ℕ) (rows : List AttributeSpan) (start middle end n c : ℕ) → Fits text rows start middle end → IsScalar c
+pub begun : (text grown : List ℕ) (rows : List AttributeSpan) (start middle end n c : ℕ) → SpansFit text rows start middle end → IsScalar c
     → grown ≡ text ++ encode_utf8 c → n ≡ length text
-    → Fits grown rows start middle n
+    → SpansFit grown rows start middle n
     × (read_as grown rows start middle n ≡ record { whole = rows_read text rows; key = chars (piece text start middle); known = chars (piece text middle end) ++ chars (drop end text); pending = c ∷ [] })
 begun text grown rows start middle end n c f s g h =
     let within : middle ≤ length text = omega (arith, f.on, f.within) in
@@ -197,9 +197,9 @@ begun text grown rows start middle end n c f s g h =
     )
 
 -- a run goes on
-pub gone_on : (text grown : List ℕ) (rows : List AttributeSpan) (start middle end c : ℕ) → Fits text rows start middle end → IsScalar c
+pub gone_on : (text grown : List ℕ) (rows : List AttributeSpan) (start middle end c : ℕ) → SpansFit text rows start middle end → IsScalar c
     → grown ≡ text ++ encode_utf8 c
-    → Fits grown rows start middle end
+    → SpansFit grown rows start middle end
     × (read_as grown rows start middle end ≡ record { whole = rows_read text rows; key = chars (piece text start middle); known = chars (piece text middle end); pending = chars (drop end text) ++ c ∷ [] })
 gone_on text grown rows start middle end c f s g =
     let within : middle ≤ length text = omega (arith, f.on, f.within) in
@@ -230,9 +230,9 @@ none_of : (bs : List ℕ) → IsUtf8 bs → chars bs ≡ [] → bs ≡ []
 none_of bs u e = sym (encodes-chars bs u) ∙ ap encode_utf8_all e
 
 -- a name goes on, where no value was begun
-key_pushed_all : (text grown : List ℕ) (rows : List AttributeSpan) (start middle end n : ℕ) (more : List ℕ) → Fits text rows start middle end → IsUtf8 more
+key_pushed_all : (text grown : List ℕ) (rows : List AttributeSpan) (start middle end n : ℕ) (more : List ℕ) → SpansFit text rows start middle end → IsUtf8 more
     → grown ≡ text ++ more → n ≡ length grown → chars (piece text middle end) ≡ [] → chars (drop end text) ≡ []
-    → Fits grown rows start n n
+    → SpansFit grown rows start n n
     × (read_as grown rows start n n ≡ record { whole = rows_read text rows; key = chars (piece text start middle) ++ chars more; known = chars (piece text middle end); pending = chars (drop end text) })
 key_pushed_all text grown rows start middle end n more f u g h k p =
     let within : start ≤ length text = omega (arith, f.rises, f.on, f.within) in
@@ -264,17 +264,17 @@ key_pushed_all text grown rows start middle end n more f u g h k p =
       },
     )
 
-pub key_pushed : (text grown : List ℕ) (rows : List AttributeSpan) (start middle end n c : ℕ) → Fits text rows start middle end → IsScalar c
+pub key_pushed : (text grown : List ℕ) (rows : List AttributeSpan) (start middle end n c : ℕ) → SpansFit text rows start middle end → IsScalar c
     → grown ≡ text ++ encode_utf8 c → n ≡ length grown → chars (piece text middle end) ≡ [] → chars (drop end text) ≡ []
-    → Fits grown rows start n n
+    → SpansFit grown rows start n n
     × (read_as grown rows start n n ≡ record { whole = rows_read text rows; key = chars (piece text start middle) ++ c ∷ []; known = chars (piece text middle end); pending = chars (drop end text) })
 key_pushed text grown rows start middle end n c f s g h k p =
     let all = key_pushed_all text grown rows start middle end n (encode_utf8 c) f (IsUtf8-encode c s) g h k p in
     (all.0, all.1 ∙ ap (λ (more : List ℕ). key_on (read_as text rows start middle end) more) (one_char c s))
 
-pub key_pushed_ascii : (text grown : List ℕ) (rows : List AttributeSpan) (start middle end n : ℕ) (more : List ℕ) → Fits text rows start middle end → list_all is_ascii more ≡ true
+pub key_pushed_ascii : (text grown : List ℕ) (rows : List AttributeSpan) (start middle end n : ℕ) (more : List ℕ) → SpansFit text rows start middle end → list_all is_ascii more ≡ true
     → grown ≡ text ++ more → n ≡ length grown → chars (piece text middle end) ≡ [] → chars (drop end text) ≡ []
-    → Fits grown rows start n n
+    → SpansFit grown rows start n n
     × (read_as grown rows start n n ≡ record { whole = rows_read text rows; key = chars (piece text start middle) ++ more; known = chars (piece text middle end); pending = chars (drop end text) })
 key_pushed_ascii text grown rows start middle end n more f a g h k p =
     let all = key_pushed_all text grown rows start middle end n more f (ascii-utf8 more a) g h k p in
@@ -290,9 +290,9 @@ rows_fit_past text limit past (row ∷ rows) p f =
     (record { rises = f.0.rises; apart = f.0.apart; on = f.0.on; within = omega (arith, f.0.within, p); name = f.0.name; value = f.0.value }, rows_fit_past text limit past rows p f.1)
 
 -- an attribute is whole
-pub added : (text : List ℕ) (rows grown : List AttributeSpan) (start middle end n : ℕ) → Fits text rows start middle end
+pub added : (text : List ℕ) (rows grown : List AttributeSpan) (start middle end n : ℕ) → SpansFit text rows start middle end
     → grown ≡ rows ++ record { start = start; middle = middle; value = middle; end = n } ∷ [] → n ≡ length text
-    → Fits text grown n n n
+    → SpansFit text grown n n n
     × (read_as text grown n n n ≡ record { whole = rows_read text rows ++ (chars (piece text start middle), chars (piece text middle end) ++ chars (drop end text)) ∷ []; key = []; known = []; pending = [] })
 added text rows grown start middle end n f g h =
     let m = from_middle text rows start middle end f in
@@ -319,18 +319,18 @@ added text rows grown start middle end n f g h =
       },
     )
 
-pub fresh : Fits [] [] 0 0 0 × (read_as [] [] 0 0 0 ≡ nothing_read)
+pub fresh : SpansFit [] [] 0 0 0 × (read_as [] [] 0 0 0 ≡ nothing_read)
 fresh = (record { rows_fit = tt; rises = omega arith; on = omega arith; within = omega arith; key = IsUtf8-nil; known = IsUtf8-nil; pending = IsUtf8-nil }, λ i. record { whole = []; key = chars-nil i; known = chars-nil i; pending = chars-nil i })
 
 -- what the run stands for takes its place
-pub replaced : (text grown : List ℕ) (rows : List AttributeSpan) (start middle end n c : ℕ) → Fits text rows start middle end → IsScalar c
+pub replaced : (text grown : List ℕ) (rows : List AttributeSpan) (start middle end n c : ℕ) → SpansFit text rows start middle end → IsScalar c
     → grown ≡ take end text ++ encode_utf8 c → n ≡ length grown
-    → Fits grown rows start middle n
+    → SpansFit grown rows start middle n
     × (read_as grown rows start middle n ≡ record { whole = rows_read text rows; key = chars (piece text start middle); known = chars (piece text middle end) ++ c ∷ []; pending = [] })
 replaced text grown rows start middle end n c f s g h =
     let b = cut_back text rows start middle end f in
     let p = pushed (take end text) grown rows start middle end n c b.0 s g h in
-    (p.0, p.1 ∙ ap (λ (r : Reading). record { whole = r.whole; key = r.key; known = r.known ++ (r.pending ++ c ∷ []); pending = [] }) b.1)
+    (p.0, p.1 ∙ ap (λ (r : AttributeReading). record { whole = r.whole; key = r.key; known = r.known ++ (r.pending ++ c ∷ []); pending = [] }) b.1)
 
 pub rows_count : (text : List ℕ) (rows : List AttributeSpan) → length (rows_read text rows) ≡ length rows
 rows_count text [] = refl
@@ -348,16 +348,16 @@ pub row_at : (text : List ℕ) (limit : ℕ) (rows : List AttributeSpan) (i : �
 row_at text limit rows i row other f h e = rw e (row_of text limit rows i other f (omega (arith, h, rows_count text rows)))
 
 -- an attribute is whole, and the next one's name begins
-pub key_added : (text grown : List ℕ) (rows more : List AttributeSpan) (start middle end n m c : ℕ) → Fits text rows start middle end → IsScalar c
+pub key_added : (text grown : List ℕ) (rows more : List AttributeSpan) (start middle end n m c : ℕ) → SpansFit text rows start middle end → IsScalar c
     → grown ≡ text ++ encode_utf8 c → more ≡ rows ++ record { start = start; middle = middle; value = middle; end = n } ∷ [] → n ≡ length text → m ≡ length grown
-    → Fits grown more n m m
+    → SpansFit grown more n m m
     × (read_as grown more n m m ≡ record { whole = rows_read text rows ++ (chars (piece text start middle), chars (piece text middle end) ++ chars (drop end text)) ∷ []; key = c ∷ []; known = []; pending = [] })
 key_added text grown rows more start middle end n m c f s g h k l =
     let a = added text rows more start middle end n f h k in
-    let known : chars (piece text n n) ≡ [] = ap (λ (r : Reading). r.known) a.1 in
-    let pending : chars (drop n text) ≡ [] = ap (λ (r : Reading). r.pending) a.1 in
+    let known : chars (piece text n n) ≡ [] = ap (λ (r : AttributeReading). r.known) a.1 in
+    let pending : chars (drop n text) ≡ [] = ap (λ (r : AttributeReading). r.pending) a.1 in
     let b = key_pushed text grown more n n n m c a.0 s g l known pending in
-    (b.0, b.1 ∙ ap (λ (r : Reading). record { whole = r.whole; key = r.key ++ c ∷ []; known = r.known; pending = r.pending }) a.1)
+    (b.0, b.1 ∙ ap (λ (r : AttributeReading). record { whole = r.whole; key = r.key ++ c ∷ []; known = r.known; pending = r.pending }) a.1)
 
 take_past : (old bytes : List ℕ) (n k : ℕ) → n ≡ length old + k → take n (old ++ bytes) ≡ old ++ take k bytes
 take_past [] bytes n k e = ap (λ m. take m bytes) (omega arith)
@@ -374,18 +374,18 @@ cut_front old bytes n count most h l e =
     take_past old (take most bytes) (n - (most - count)) count (omega (arith, e, all)) ∙ ap (λ more. old ++ more) (take_less bytes count most h)
 
 -- the rest of a name and a value of ASCII are pushed, and the attribute is whole
-pub whole_pushed : (text named grown : List ℕ) (rows more : List AttributeSpan) (start middle end m n : ℕ) (name value : List ℕ) → Fits text rows start middle end → list_all is_ascii name ≡ true → list_all is_ascii value ≡ true
+pub whole_pushed : (text named grown : List ℕ) (rows more : List AttributeSpan) (start middle end m n : ℕ) (name value : List ℕ) → SpansFit text rows start middle end → list_all is_ascii name ≡ true → list_all is_ascii value ≡ true
     → named ≡ text ++ name → m ≡ length named → grown ≡ named ++ value → n ≡ length grown → more ≡ rows ++ record { start = start; middle = m; value = m; end = n } ∷ []
     → chars (piece text middle end) ≡ [] → chars (drop end text) ≡ []
-    → Fits grown more n n n
+    → SpansFit grown more n n n
     × (read_as grown more n n n ≡ record { whole = rows_read text rows ++ (chars (piece text start middle) ++ name, value) ∷ []; key = []; known = []; pending = [] })
 whole_pushed text named grown rows more start middle end m n name value f a b g h k l r no_value no_run =
     let first = key_pushed_ascii text named rows start middle end m name f a g h no_value no_run in
     let second = pushed_ascii named grown rows start m m n value first.0 b k l in
     let third = added grown rows more start m n n second.0 r l in
     let both : read_as grown rows start m n ≡ record { whole = rows_read text rows; key = chars (piece text start middle) ++ name; known = value; pending = [] } =
-    second.1 ∙ ap (λ (x : Reading). record { whole = x.whole; key = x.key; known = x.known ++ (x.pending ++ value); pending = [] }) (first.1 ∙ (λ i. record { whole = rows_read text rows; key = chars (piece text start middle) ++ name; known = no_value i; pending = no_run i })) in (
+    second.1 ∙ ap (λ (x : AttributeReading). record { whole = x.whole; key = x.key; known = x.known ++ (x.pending ++ value); pending = [] }) (first.1 ∙ (λ i. record { whole = rows_read text rows; key = chars (piece text start middle) ++ name; known = no_value i; pending = no_run i })) in (
       third.0,
-      third.1 ∙ ap (λ (x : Reading). record { whole = x.whole ++ (x.key, x.known ++ x.pending) ∷ []; key = []; known = []; pending = [] }) both
+      third.1 ∙ ap (λ (x : AttributeReading). record { whole = x.whole ++ (x.key, x.known ++ x.pending) ∷ []; key = []; known = []; pending = [] }) both
           ∙ ap (λ (x : List ℕ). record { whole = rows_read text rows ++ (chars (piece text start middle) ++ name, x) ∷ []; key = []; known = []; pending = [] }) (append-nil value),
     )

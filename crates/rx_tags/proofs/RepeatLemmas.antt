@@ -5,8 +5,8 @@ use Rattle.std.proofs.lemmas.List.{length-drop, length-map, map-append, length-a
 use Rattle.std.proofs.Math.Seq.{drop-cons, take-suc}
 use Rattle.rx_tags.proofs.Pieces.{rows_fit_append}
 use Rattle.rx_tags.specs.declared.attributes.AttributeSpan.{AttributeSpan}
-use Rattle.rx_tags.specs.Reading.{Reading, piece, row_read, rows_read, read_as, RowFits, RowsFit, Fits}
-use Rattle.rx_tags.specs.Repeats.{is_named, KeepsFirsts}
+use Rattle.rx_tags.specs.Reading.{AttributeReading, piece, row_read, rows_read, read_as, RowFits, RowsFit, SpansFit}
+use Rattle.rx_tags.specs.Repeats.{KeepsFirsts, row_has_name}
 
 numbers_swap : (m n : ℕ) → nat_eq m n ≡ nat_eq n m
 numbers_swap m n = grind (arith, nat_tests)
@@ -129,35 +129,35 @@ fit_take text limit (row ∷ rows) (suc i) f = (f.0, fit_take text limit rows i 
 pub kept_fit : (text : List ℕ) (limit : ℕ) (rows kept : List AttributeSpan) (i : ℕ) → i < length rows → RowsFit text limit rows → RowsFit text limit kept → RowsFit text limit (kept ++ at rows i ∷ [])
 kept_fit text limit rows kept i h f g = rows_fit_append text limit kept (at rows i) g (fit_at text limit rows i f h)
 
-name_seen : (text : List ℕ) (limit : ℕ) (rows : List AttributeSpan) (name : List ℕ) → RowsFit text limit rows → IsUtf8 name → has_name (rows_read text rows) (chars name) ≡ is_named text rows name
+name_seen : (text : List ℕ) (limit : ℕ) (rows : List AttributeSpan) (name : List ℕ) → RowsFit text limit rows → IsUtf8 name → has_name (rows_read text rows) (chars name) ≡ row_has_name text rows name
 name_seen text limit [] name f u = refl
 name_seen text limit (row ∷ rows) name f u =
     rw (sym (same-chars (piece text row.start row.middle) name f.0.name u), name_seen text limit rows name f.1 u) refl
 
 pub names_turn : (text : List ℕ) (rows : List AttributeSpan) (i : ℕ) (name : List ℕ) (before after : Bool) → i < length rows
-    → before ≡ is_named text (take i rows) name → after ≡ (same (piece text (at rows i).start (at rows i).middle) name || before) → after ≡ is_named text (take (i + 1) rows) name
+    → before ≡ row_has_name text (take i rows) name → after ≡ (same (piece text (at rows i).start (at rows i).middle) name || before) → after ≡ row_has_name text (take (i + 1) rows) name
 names_turn text rows i name before after h b a =
-    a ∙ ap (λ d. same (piece text (at rows i).start (at rows i).middle) name || d) b ∙ or_comm (same (piece text (at rows i).start (at rows i).middle) name) (is_named text (take i rows) name)
-    ∙ ap (λ d. is_named text (take i rows) name || d) (sym (or-false (same (piece text (at rows i).start (at rows i).middle) name)))
+    a ∙ ap (λ d. same (piece text (at rows i).start (at rows i).middle) name || d) b ∙ or_comm (same (piece text (at rows i).start (at rows i).middle) name) (row_has_name text (take i rows) name)
+    ∙ ap (λ d. row_has_name text (take i rows) name || d) (sym (or-false (same (piece text (at rows i).start (at rows i).middle) name)))
     ∙ sym (list_any-append (λ (row : AttributeSpan). same (piece text row.start row.middle) name) (take i rows) (at rows i ∷ []))
-    ∙ ap (λ some. is_named text some name) (sym (take_more rows i h))
+    ∙ ap (λ some. row_has_name text some name) (sym (take_more rows i h))
 
 module _ (text : List ℕ) (limit : ℕ) (rows : List AttributeSpan) (i : ℕ) (fit : RowsFit text limit rows) (h : i < length rows) where
-  named : has_name (rows_read text (take i rows)) (chars (piece text (at rows i).start (at rows i).middle)) ≡ is_named text (take i rows) (piece text (at rows i).start (at rows i).middle)
+  named : has_name (rows_read text (take i rows)) (chars (piece text (at rows i).start (at rows i).middle)) ≡ row_has_name text (take i rows) (piece text (at rows i).start (at rows i).middle)
   named = name_seen text limit (take i rows) (piece text (at rows i).start (at rows i).middle) (fit_take text limit rows i fit) (fit_at text limit rows i fit h).name
 
   read_more : rows_read text (take (i + 1) rows) ≡ rows_read text (take i rows) ++ row_read text (at rows i) ∷ []
   read_more = ap (rows_read text) (take_more rows i h) ∙ map-append (row_read text) (take i rows) (at rows i ∷ [])
 
   -- a row more, whose name stands in none before it
-  pub apart_turn : has_repeat (rows_read text (take i rows)) ≡ false → is_named text (take i rows) (piece text (at rows i).start (at rows i).middle) ≡ false → has_repeat (rows_read text (take (i + 1) rows)) ≡ false
+  pub apart_turn : has_repeat (rows_read text (take i rows)) ≡ false → row_has_name text (take i rows) (piece text (at rows i).start (at rows i).middle) ≡ false → has_repeat (rows_read text (take (i + 1) rows)) ≡ false
   apart_turn a n =
       ap has_repeat read_more ∙ repeat_more (rows_read text (take i rows)) (row_read text (at rows i))
       ∙ ap (λ b. b || has_name (rows_read text (take i rows)) (row_read text (at rows i)).0) a ∙ named ∙ n
 
 module _ (text : List ℕ) (limit : ℕ) (rows kept : List AttributeSpan) (i : ℕ) (fit : RowsFit text limit rows) (h : i < length rows)
     (read : rows_read text kept ≡ firsts (rows_read text (take i rows))) (is_new before : Bool)
-    (b : before ≡ is_named text (take i rows) (piece text (at rows i).start (at rows i).middle)) (n : is_new ≡ not before) where
+    (b : before ≡ row_has_name text (take i rows) (piece text (at rows i).start (at rows i).middle)) (n : is_new ≡ not before) where
   pub new_turn : is_new ≡ true → rows_read text (kept ++ at rows i ∷ []) ≡ firsts (rows_read text (take (i + 1) rows))
   new_turn e =
       map-append (row_read text) kept (at rows i ∷ []) ∙ ap (λ front. front ++ row_read text (at rows i) ∷ []) read
@@ -176,18 +176,18 @@ kept_all text rows kept n m read k r e = all_kept (rows_read text rows) (omega (
 pub kept_some : (text : List ℕ) (rows kept : List AttributeSpan) (n m : ℕ) → rows_read text kept ≡ firsts (rows_read text rows) → n ≡ length kept → m ≡ length rows → (n ≡ m → ⊥) → has_repeat (rows_read text rows) ≡ true
 kept_some text rows kept n m read k r e = not_all_kept (rows_read text rows) (λ all. e (omega (arith, counts text rows kept read, length-map rows (row_read text), k, r, all)))
 
-pub nothing_left : (r : Reading) → has_repeat r.whole ≡ false → r ≡ record { whole = firsts r.whole; key = r.key; known = r.known; pending = r.pending }
+pub nothing_left : (r : AttributeReading) → has_repeat r.whole ≡ false → r ≡ record { whole = firsts r.whole; key = r.key; known = r.known; pending = r.pending }
 nothing_left r h = λ i. record { whole = sym (unrepeated r.whole h) i; key = r.key; known = r.known; pending = r.pending }
 
-pub keeps_fit : (text : List ℕ) (rows kept : List AttributeSpan) (start middle end : ℕ) → Fits text rows start middle end → KeepsFirsts text rows kept → Fits text kept start middle end
+pub keeps_fit : (text : List ℕ) (rows kept : List AttributeSpan) (start middle end : ℕ) → SpansFit text rows start middle end → KeepsFirsts text rows kept → SpansFit text kept start middle end
 keeps_fit text rows kept start middle end f k =
     record { rows_fit = k.fit start f.rows_fit; rises = f.rises; on = f.on; within = f.within; key = f.key; known = f.known; pending = f.pending }
 
-pub first_of : (text : List ℕ) (rows kept : List AttributeSpan) (start middle end : ℕ) (r : Reading) → read_as text rows start middle end ≡ r → KeepsFirsts text rows kept
+pub first_of : (text : List ℕ) (rows kept : List AttributeSpan) (start middle end : ℕ) (r : AttributeReading) → read_as text rows start middle end ≡ r → KeepsFirsts text rows kept
     → read_as text kept start middle end ≡ record { whole = firsts r.whole; key = r.key; known = r.known; pending = r.pending }
 first_of text rows kept start middle end r e k =
     (λ i. record { whole = k.read i; key = chars (piece text start middle); known = chars (piece text middle end); pending = chars (drop end text) })
-    ∙ ap (λ (x : Reading). record { whole = firsts x.whole; key = x.key; known = x.known; pending = x.pending }) e
+    ∙ ap (λ (x : AttributeReading). record { whole = firsts x.whole; key = x.key; known = x.known; pending = x.pending }) e
 
 pub fit_drop : (text : List ℕ) (limit : ℕ) (rows : List AttributeSpan) (i : ℕ) → RowsFit text limit rows → RowsFit text limit (drop i rows)
 fit_drop text limit rows zero f = f
@@ -196,20 +196,20 @@ fit_drop text limit (row ∷ rows) (suc i) f = fit_drop text limit rows i f.1
 
 -- a row against those behind it
 pub pair_turn : (text : List ℕ) (limit : ℕ) (rows : List AttributeSpan) (i : ℕ) → RowsFit text limit rows → i < length rows
-    → has_repeat (rows_read text (drop i rows)) ≡ (is_named text (drop (i + 1) rows) (piece text (at rows i).start (at rows i).middle) || has_repeat (rows_read text (drop (i + 1) rows)))
+    → has_repeat (rows_read text (drop i rows)) ≡ (row_has_name text (drop (i + 1) rows) (piece text (at rows i).start (at rows i).middle) || has_repeat (rows_read text (drop (i + 1) rows)))
 pair_turn text limit rows i f h =
     let n : suc i ≡ i + 1 = omega arith in
     let r = fit_at text limit rows i f h in
     ap (λ some. has_repeat (rows_read text some)) (drop-cons rows i (record { start = 0; middle = 0; value = 0; end = 0 }) h)
     ∙ (ap (λ b. b || has_repeat (rows_read text (drop (suc i) rows))) (name_seen text limit (drop (suc i) rows) (piece text (at rows i).start (at rows i).middle) (fit_drop text limit rows (suc i) f) r.name)
-    ∙ ap (λ m. is_named text (drop m rows) (piece text (at rows i).start (at rows i).middle) || has_repeat (rows_read text (drop m rows))) n)
+    ∙ ap (λ m. row_has_name text (drop m rows) (piece text (at rows i).start (at rows i).middle) || has_repeat (rows_read text (drop m rows))) n)
 
 pub pair_found : (text : List ℕ) (limit : ℕ) (rows : List AttributeSpan) (i : ℕ) → RowsFit text limit rows → i < length rows
-    → is_named text (drop (i + 1) rows) (piece text (at rows i).start (at rows i).middle) ≡ true → has_repeat (rows_read text (drop i rows)) ≡ true
+    → row_has_name text (drop (i + 1) rows) (piece text (at rows i).start (at rows i).middle) ≡ true → has_repeat (rows_read text (drop i rows)) ≡ true
 pair_found text limit rows i f h e = pair_turn text limit rows i f h ∙ ap (λ b. b || has_repeat (rows_read text (drop (i + 1) rows))) e
 
 pub pair_passed : (text : List ℕ) (limit : ℕ) (rows : List AttributeSpan) (i : ℕ) → RowsFit text limit rows → i < length rows
-    → is_named text (drop (i + 1) rows) (piece text (at rows i).start (at rows i).middle) ≡ false → has_repeat (rows_read text (drop i rows)) ≡ has_repeat (rows_read text (drop (i + 1) rows))
+    → row_has_name text (drop (i + 1) rows) (piece text (at rows i).start (at rows i).middle) ≡ false → has_repeat (rows_read text (drop i rows)) ≡ has_repeat (rows_read text (drop (i + 1) rows))
 pair_passed text limit rows i f h e = pair_turn text limit rows i f h ∙ ap (λ b. b || has_repeat (rows_read text (drop (i + 1) rows))) e
 
 pub all_behind : (rows : List AttributeSpan) (n : ℕ) → take (length rows - n) (drop n rows) ≡ drop n rows

@@ -1,14 +1,14 @@
 -- Characters that a tag takes at once are read like one after another.
-use Rattle.rx_reader.proofs.Common.{◌≡◌, ◌∙◌, ℕ, ◌+◌, ◌-◌, ◌≤◌, ◌<◌, Bool, true, false, List, [], ◌∷◌, ◌++◌, length, take, drop, refl, ap, sym, subst, Result, Ok, append_assoc, arith, eqb-true, take-add, length-take-le, get_or, inl, inr, length-drop, ◌==◌, ◌&&◌, nat_le, MatchBool, list_all, cond-true, cond-false, or_left, or_right, lt-ltb, le-leb, leb-true, eqb-false, and_parts, and_from, cases_lt, lt-leb, both_ways, take_more, take_rest, list_all-append, is_ascii, Chars, by_test, Syntax, Html, Xhtml, meaning, cased_char, Kind, Move, go, move_of, is_last, Value, known_as, plain_step, value_step, is_run, TagState, with_value, moved, checked, tag_on}
+use Rattle.rx_reader.proofs.Common.{◌≡◌, ◌∙◌, ℕ, ◌+◌, ◌-◌, ◌≤◌, ◌<◌, Bool, true, false, List, [], ◌∷◌, ◌++◌, length, take, drop, refl, ap, sym, subst, Result, Ok, append_assoc, arith, eqb-true, take-add, length-take-le, get_or, inl, inr, length-drop, ◌==◌, ◌&&◌, nat_le, MatchBool, list_all, cond-true, cond-false, or_left, or_right, lt-ltb, le-leb, leb-true, eqb-false, and_parts, and_from, cases_lt, lt-leb, both_ways, take_more, take_rest, list_all-append, is_ascii, Chars, by_test, Syntax, Html, Xhtml, meaning, cased_char, Kind, Move, go, move_of, is_last, PartialValue, known_as, plain_step, value_step, is_run, TagState, with_value, moved, checked, tag_on}
 use Rattle.rx_chars.specs.NcName.{is_nc, is_nc_start}
 use Rattle.rx_reader.specs.declared.phases.RunPhase.{RunPhase}
 use Rattle.rx_reader.specs.declared.phases.RunPhase.TheVariants as run
 use Rattle.rx_reader.specs.declared.phases.TagPhase.{TagPhase}
 use Rattle.rx_reader.specs.declared.phases.TagPhase.TheVariants as phase
 use Rattle.rx_reader.specs.declared.phases.TagAction.TheVariants as action
-use Rattle.rx_tags.specs.Fronts.{is_printed, is_plain, is_small, is_quoted, is_naming, named, opens_key, GoesTo, GoesBy, TakesFront, GainsValue, GainsKey, GainsName}
-use Rattle.rx_tags.specs.Pairs.{Pairs, pairs_read, IsPending}
-use Rattle.rx_tags.specs.Reading.{Reading}
+use Rattle.rx_tags.specs.Fronts.{is_printed, plain_in_quotes, is_small, is_quoted, is_naming, after_letter, opens_key, GoesTo, GoesBy, TakesFront, GainsValue, GainsKey, GainsName}
+use Rattle.rx_tags.specs.Pairs.{Pairs, pairs_read, IsPendingRun}
+use Rattle.rx_tags.specs.Reading.{AttributeReading}
 use Rattle.rx_tags.specs.TagBufs.{TagSoFar, MayStep, TakesMore}
 use Rattle.rx_tags.specs.TagReads.{state_of}
 
@@ -27,9 +27,9 @@ printed_ascii (c ∷ front) h =
     let b = printed_to c k.0 in
     and_from (is_ascii c) _ (lt-ltb c 128 (omega arith)) (printed_ascii front k.1)
 
-plain_printed : (front : Chars) → list_all is_plain front ≡ true → list_all is_printed front ≡ true
+plain_printed : (front : Chars) → list_all plain_in_quotes front ≡ true → list_all is_printed front ≡ true
 plain_printed [] h = refl
-plain_printed (c ∷ front) h = let k = and_parts (is_plain c) _ h in and_from (is_printed c) _ (and_parts (is_printed c) _ k.0).0 (plain_printed front k.1)
+plain_printed (c ∷ front) h = let k = and_parts (plain_in_quotes c) _ h in and_from (is_printed c) _ (and_parts (is_printed c) _ k.0).0 (plain_printed front k.1)
 
 small_from : (c : ℕ) → is_small c ≡ true → 97 ≤ c
 small_from c h = leb-true 97 c (and_parts (nat_le 97 c) (nat_le c 122) h).0
@@ -45,7 +45,7 @@ small_printed (c ∷ front) h =
     let high = small_to c k.0 in
     and_from (is_printed c) _ (and_from _ _ (le-leb 32 c (omega arith)) (le-leb c 126 (omega arith))) (small_printed front k.1)
 
-pub plain_ascii : (front : Chars) → list_all is_plain front ≡ true → list_all is_ascii front ≡ true
+pub plain_ascii : (front : Chars) → list_all plain_in_quotes front ≡ true → list_all is_ascii front ≡ true
 plain_ascii front h = printed_ascii front (plain_printed front h)
 
 pub small_ascii : (front : Chars) → list_all is_small front ≡ true → list_all is_ascii front ≡ true
@@ -76,16 +76,16 @@ pub checked_open : (s : Syntax) (st : TagState) → is_last st.phase ≡ false �
 checked_open s st e = rw e refl
 
 -- a plain character of a value in quotes
-module _ (s : Syntax) (c : ℕ) (h : is_plain c ≡ true) where
+module _ (s : Syntax) (c : ℕ) (h : plain_in_quotes c ≡ true) where
   plain_is : (sy : Syntax) (known : Chars) → plain_step sy known c ≡ Ok (known_as (known ++ c ∷ []))
-  plain_is Html known = rw (is_none is_plain c 38 h refl) refl
-  plain_is Xhtml known = rw (is_none is_plain c 38 h refl, is_none is_plain c 60 h refl, is_none is_plain c 9 h refl, is_none is_plain c 10 h refl) refl
+  plain_is Html known = rw (is_none plain_in_quotes c 38 h refl) refl
+  plain_is Xhtml known = rw (is_none plain_in_quotes c 38 h refl, is_none plain_in_quotes c 60 h refl, is_none plain_in_quotes c 9 h refl, is_none plain_in_quotes c 10 h refl) refl
 
-  value_is : (value : Value) → value.phase ≡ run.Plain → value_step s (meaning s) value c ≡ Ok (known_as (value.known ++ c ∷ []))
+  value_is : (value : PartialValue) → value.phase ≡ run.Plain → value_step s (meaning s) value c ≡ Ok (known_as (value.known ++ c ∷ []))
   value_is value e = cond-false _ _ _ (ap is_run e) ∙ plain_is s value.known
 
   quoted_move : (p : TagPhase) → is_quoted p ≡ true → move_of s p c ≡ go p action.Value
-  quoted_move p q = on_quoted (λ x. move_of s x c ≡ go x action.Value) p q (cond-false _ _ _ (is_none is_plain c 34 h refl)) (cond-false _ _ _ (is_none is_plain c 39 h refl))
+  quoted_move p q = on_quoted (λ x. move_of s x c ≡ go x action.Value) p q (cond-false _ _ _ (is_none plain_in_quotes c 34 h refl)) (cond-false _ _ _ (is_none plain_in_quotes c 39 h refl))
 
 -- the attributes with more of the value, or of the name
 abbrev pub valued : Pairs → Chars → Pairs
@@ -95,19 +95,19 @@ abbrev pub keyed : Pairs → Chars → Pairs
 keyed old text = record { whole = old.whole; key = text; value = old.value }
 
 module _ (s : Syntax) (p : TagPhase) (name : Chars) (q : is_quoted p ≡ true) where
-  one_value : (old : Pairs) (c : ℕ) → is_plain c ≡ true → old.value.phase ≡ run.Plain → GoesTo s (state_of p name old) c (state_of p name (valued old (old.value.known ++ c ∷ [])))
+  one_value : (old : Pairs) (c : ℕ) → plain_in_quotes c ≡ true → old.value.phase ≡ run.Plain → GoesTo s (state_of p name old) c (state_of p name (valued old (old.value.known ++ c ∷ [])))
   one_value old c h e =
       let unfinished = on_quoted (λ x. is_last x ≡ false) p q refl refl in (
         ap (λ (m : Move). checked s (moved s (meaning s) (state_of p name old) c m)) (quoted_move s c h p q)
-            ∙ (ap (λ (v : Result Value Kind). checked s (with_value p (state_of p name old) v)) (value_is s c h old.value e)
+            ∙ (ap (λ (v : Result PartialValue Kind). checked s (with_value p (state_of p name old) v)) (value_is s c h old.value e)
             ∙ checked_open s (state_of p name (valued old (old.value.known ++ c ∷ []))) unfinished),
         unfinished,
       )
 
-  more_value : (old : Pairs) (c : ℕ) (front : Chars) → old.value.phase ≡ run.Plain → list_all is_plain (c ∷ front) ≡ true → GoesBy s (state_of p name old) (c ∷ front) (state_of p name (valued old (old.value.known ++ c ∷ front)))
-  more_value old c [] e h = (state_of p name (valued old (old.value.known ++ c ∷ [])), one_value old c (and_parts (is_plain c) _ h).0 e, refl)
+  more_value : (old : Pairs) (c : ℕ) (front : Chars) → old.value.phase ≡ run.Plain → list_all plain_in_quotes (c ∷ front) ≡ true → GoesBy s (state_of p name old) (c ∷ front) (state_of p name (valued old (old.value.known ++ c ∷ front)))
+  more_value old c [] e h = (state_of p name (valued old (old.value.known ++ c ∷ [])), one_value old c (and_parts (plain_in_quotes c) _ h).0 e, refl)
   more_value old c (d ∷ front) e h =
-      let k = and_parts (is_plain c) _ h in
+      let k = and_parts (plain_in_quotes c) _ h in
       let next : Pairs = valued old (old.value.known ++ c ∷ []) in (
         state_of p name next,
         one_value old c k.0 e,
@@ -161,8 +161,8 @@ module _ (c : ℕ) (h : is_small c ≡ true) where
   opening_move Html = cond-true _ _ _ (or_right (nat_le 65 c && nat_le c 90) _ h)
   opening_move Xhtml = cond-true _ _ _ (or_left (is_nc_start c) _ small_start)
 
-  name_move : (s : Syntax) (p : TagPhase) → is_naming p ≡ true → move_of s p c ≡ go (named p) action.Name
-  name_move s p q = on_naming (λ x. move_of s x c ≡ go (named x) action.Name) p q (opening_move s) (start_move s) (end_move s) (first_move s)
+  name_move : (s : Syntax) (p : TagPhase) → is_naming p ≡ true → move_of s p c ≡ go (after_letter p) action.Name
+  name_move s p q = on_naming (λ x. move_of s x c ≡ go (after_letter x) action.Name) p q (opening_move s) (start_move s) (end_move s) (first_move s)
 
   small_cased : (s : Syntax) → cased_char s c ≡ c
   small_cased Html =
@@ -199,37 +199,37 @@ module _ (s : Syntax) (name : Chars) where
   some_key p old new (c ∷ front) q n g = subst (λ (x : Pairs). GoesBy s (state_of p name old) (c ∷ front) (in_key x)) (sym g.is) (more_key p old c front q g.small)
 
 -- a small letter of a tag's name
-named_naming : (p : TagPhase) → is_naming p ≡ true → is_naming (named p) ≡ true
-named_naming p q = on_naming (λ x. is_naming (named x) ≡ true) p q refl refl refl refl
+named_naming : (p : TagPhase) → is_naming p ≡ true → is_naming (after_letter p) ≡ true
+named_naming p q = on_naming (λ x. is_naming (after_letter x) ≡ true) p q refl refl refl refl
 
-named_twice : (p : TagPhase) → is_naming p ≡ true → named (named p) ≡ named p
-named_twice p q = on_naming (λ x. named (named x) ≡ named x) p q refl refl refl refl
+named_twice : (p : TagPhase) → is_naming p ≡ true → after_letter (after_letter p) ≡ after_letter p
+named_twice p q = on_naming (λ x. after_letter (after_letter x) ≡ after_letter x) p q refl refl refl refl
 
 module _ (s : Syntax) (pairs : Pairs) where
   abbrev with_name : TagPhase → Chars → TagState
   with_name p name = state_of p name pairs
 
-  one_name : (p : TagPhase) (name : Chars) (c : ℕ) → is_naming p ≡ true → is_small c ≡ true → GoesTo s (with_name p name) c (with_name (named p) (name ++ c ∷ []))
+  one_name : (p : TagPhase) (name : Chars) (c : ℕ) → is_naming p ≡ true → is_small c ≡ true → GoesTo s (with_name p name) c (with_name (after_letter p) (name ++ c ∷ []))
   one_name p name c q h =
-      let unfinished = on_naming (λ x. is_last (named x) ≡ false) p q refl refl refl refl in (
+      let unfinished = on_naming (λ x. is_last (after_letter x) ≡ false) p q refl refl refl refl in (
         ap (λ (m : Move). checked s (moved s (meaning s) (with_name p name) c m)) (name_move c h s p q)
-            ∙ (ap (λ (d : ℕ). checked s (ok_state s name (with_name (named p) (name ++ d ∷ [])))) (small_cased c h s) ∙ checked_open s (with_name (named p) (name ++ c ∷ [])) unfinished),
+            ∙ (ap (λ (d : ℕ). checked s (ok_state s name (with_name (after_letter p) (name ++ d ∷ [])))) (small_cased c h s) ∙ checked_open s (with_name (after_letter p) (name ++ c ∷ [])) unfinished),
         unfinished,
       )
 
-  more_name : (p : TagPhase) (name : Chars) (c : ℕ) (front : Chars) → is_naming p ≡ true → list_all is_small (c ∷ front) ≡ true → GoesBy s (with_name p name) (c ∷ front) (with_name (named p) (name ++ c ∷ front))
-  more_name p name c [] q h = (with_name (named p) (name ++ c ∷ []), one_name p name c q (and_parts (is_small c) _ h).0, refl)
+  more_name : (p : TagPhase) (name : Chars) (c : ℕ) (front : Chars) → is_naming p ≡ true → list_all is_small (c ∷ front) ≡ true → GoesBy s (with_name p name) (c ∷ front) (with_name (after_letter p) (name ++ c ∷ front))
+  more_name p name c [] q h = (with_name (after_letter p) (name ++ c ∷ []), one_name p name c q (and_parts (is_small c) _ h).0, refl)
   more_name p name c (d ∷ front) q h =
       let k = and_parts (is_small c) _ h in
-      let more = subst (λ (x : TagPhase). GoesBy s (with_name (named p) (name ++ c ∷ [])) (d ∷ front) (with_name x ((name ++ c ∷ []) ++ d ∷ front))) (named_twice p q) (more_name (named p) (name ++ c ∷ []) d front (named_naming p q) k.1) in (
-        with_name (named p) (name ++ c ∷ []),
+      let more = subst (λ (x : TagPhase). GoesBy s (with_name (after_letter p) (name ++ c ∷ [])) (d ∷ front) (with_name x ((name ++ c ∷ []) ++ d ∷ front))) (named_twice p q) (more_name (after_letter p) (name ++ c ∷ []) d front (named_naming p q) k.1) in (
+        with_name (after_letter p) (name ++ c ∷ []),
         one_name p name c q k.0,
-        subst (λ (x : Chars). GoesBy s (with_name (named p) (name ++ c ∷ [])) (d ∷ front) (with_name (named p) x)) (append_assoc name (c ∷ []) (d ∷ front)) more,
+        subst (λ (x : Chars). GoesBy s (with_name (after_letter p) (name ++ c ∷ [])) (d ∷ front) (with_name (after_letter p) x)) (append_assoc name (c ∷ []) (d ∷ front)) more,
       )
 
-  some_name : (p : TagPhase) (name new front : Chars) → is_naming p ≡ true → 0 < length front → GainsName name front new → GoesBy s (with_name p name) front (with_name (named p) new)
+  some_name : (p : TagPhase) (name new front : Chars) → is_naming p ≡ true → 0 < length front → GainsName name front new → GoesBy s (with_name p name) front (with_name (after_letter p) new)
   some_name p name new [] q n g = absurd (omega arith)
-  some_name p name new (c ∷ front) q n g = subst (λ (x : Chars). GoesBy s (with_name p name) (c ∷ front) (with_name (named p) x)) (sym g.is) (more_name p name c front q g.small)
+  some_name p name new (c ∷ front) q n g = subst (λ (x : Chars). GoesBy s (with_name p name) (c ∷ front) (with_name (after_letter p) x)) (sym g.is) (more_name p name c front q g.small)
 
 -- nothing is taken, or some characters are
 pub some_count : (n : ℕ) → (n ≡ 0 → ⊥) → 0 < n
@@ -260,7 +260,7 @@ key_front s p name old new bytes n q some f m =
     (λ z g. record { fits = f; printed = small_printed (take n bytes) g.small; goes = some_key s name p old new (take n bytes) q (some_taken n bytes f z) g })
 
 pub name_front : (s : Syntax) (p : TagPhase) (name new : Chars) (pairs : Pairs) (bytes : List ℕ) (n : ℕ) → is_naming p ≡ true → (n ≡ 0 → ⊥) → n ≤ length bytes → MatchBool (n == 0) (new ≡ name) (GainsName name (take n bytes) new)
-    → TakesFront s (state_of p name pairs) bytes n (state_of (named p) new pairs)
+    → TakesFront s (state_of p name pairs) bytes n (state_of (after_letter p) new pairs)
 name_front s p name new pairs bytes n q some f m =
     match_by (n == 0) _ _ m
     (λ z e. absurd (some (eqb-true n 0 z)))
@@ -311,20 +311,20 @@ none_same old new bytes n t z =
 pub chosen : (n : ℕ) (P Q : Type 0) → (n ≡ 0 → ⊥) → Q → MatchBool (n == 0) P Q
 chosen n P Q z q = subst (λ (b : Bool). MatchBool b P Q) (by_test {G = false ≡ (n == 0)} (n == 0) (λ t. absurd (z (eqb-true n 0 t))) (λ t. sym t)) q
 
-gains : (p : RunPhase) (old new : Reading) (front : Chars) → is_run p ≡ false → IsPending p old.pending → list_all is_plain front ≡ true
+gains : (p : RunPhase) (old new : AttributeReading) (front : Chars) → is_run p ≡ false → IsPendingRun p old.pending → list_all plain_in_quotes front ≡ true
     → new ≡ record { whole = old.whole; key = old.key; known = old.known ++ (old.pending ++ front); pending = [] } → GainsValue (pairs_read p old) front (pairs_read p new)
 gains run.Plain old new front r k h e =
     record { plain = h; outside = refl; is = ap (pairs_read run.Plain) e ∙ ap (λ (x : Chars). valued (pairs_read run.Plain old) (old.known ++ (x ++ front))) k }
 gains _ old new front r k h e = absurd (cc)
 
-pub gains_value : (p : RunPhase) (old new : Reading) (front : Chars) (n : ℕ) (P : Type 0) → (n ≡ 0 → ⊥) → is_run p ≡ false → IsPending p old.pending → list_all is_plain front ≡ true
+pub gains_value : (p : RunPhase) (old new : AttributeReading) (front : Chars) (n : ℕ) (P : Type 0) → (n ≡ 0 → ⊥) → is_run p ≡ false → IsPendingRun p old.pending → list_all plain_in_quotes front ≡ true
     → new ≡ record { whole = old.whole; key = old.key; known = old.known ++ (old.pending ++ front); pending = [] } → MatchBool (n == 0) P (GainsValue (pairs_read p old) front (pairs_read p new))
 gains_value p old new front n P z r k h e = chosen n P _ z (gains p old new front r k h e)
 
-pub stays_pending : (p : RunPhase) (old new : Reading) (front : Chars) → is_run p ≡ false → new ≡ record { whole = old.whole; key = old.key; known = old.known ++ (old.pending ++ front); pending = [] } → IsPending p new.pending
-stays_pending run.Plain old new front r e = ap (λ (x : Reading). x.pending) e
+pub stays_pending : (p : RunPhase) (old new : AttributeReading) (front : Chars) → is_run p ≡ false → new ≡ record { whole = old.whole; key = old.key; known = old.known ++ (old.pending ++ front); pending = [] } → IsPendingRun p new.pending
+stays_pending run.Plain old new front r e = ap (λ (x : AttributeReading). x.pending) e
 stays_pending _ old new front r e = absurd (cc)
 
-pub gains_key : (p : RunPhase) (old new : Reading) (front : Chars) (n : ℕ) (P : Type 0) → (n ≡ 0 → ⊥) → list_all is_small front ≡ true
+pub gains_key : (p : RunPhase) (old new : AttributeReading) (front : Chars) (n : ℕ) (P : Type 0) → (n ≡ 0 → ⊥) → list_all is_small front ≡ true
     → new ≡ record { whole = old.whole; key = old.key ++ front; known = old.known; pending = old.pending } → MatchBool (n == 0) P (GainsKey (pairs_read p old) front (pairs_read p new))
 gains_key p old new front n P z h e = chosen n P _ z (record { small = h; is = ap (pairs_read p) e })

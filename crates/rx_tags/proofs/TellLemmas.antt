@@ -4,8 +4,8 @@ use Rattle.rx_tags.specs.declared.tag_text.TagStep.{TagStep}
 use Rattle.rx_tags.specs.declared.tag_text.TagStep.TheVariants.{More, Done}
 use Rattle.rx_tags.specs.declared.pairs.TagError.{TagError}
 use Rattle.rx_tags.specs.declared.pairs.TagError.TheVariants.{Bad, NoMemory}
-use Rattle.rx_tags.specs.TagReads.{Ends}
-use Rattle.rx_tags.specs.TagBufs.{TagSoFar, TagStands, GoesOn, StepGives, TakesMore, TakesWhole, StepTells, AnswersAll}
+use Rattle.rx_tags.specs.TagReads.{TagReadEnds}
+use Rattle.rx_tags.specs.TagBufs.{TagSoFar, TagStands, TagGoesOn, StepGives, TakesMore, TakesWhole, StepTells, AnswersAll}
 use Rattle.rx_tags.proofs.TakeLemmas.{goes_read, may_step}
 
 on : (s : Syntax) (st : TagState) (chars : Chars) (c : ℕ) (r : Result TagState Kind) → tag_on s (meaning s) (Ok fresh) chars ≡ Ok st → tag_step s (meaning s) st c ≡ r
@@ -28,7 +28,7 @@ tells old new c (Ok More) g chars h =
       unspelled = no_tag_yet old.syntax new.state (chars ++ c ∷ []) run g.0.1;
     })
 tells old new c (Ok Done) g chars h =
-    let e : Ends (record { syntax = old.syntax; state = old.state }) c new.state = g.0 in
+    let e : TagReadEnds (record { syntax = old.syntax; state = old.state }) c new.state = g.0 in
     subst (StepTells (chars ++ c ∷ []) (Ok Done)) (sym g.1)
     (spells_each old.syntax (chars ++ c ∷ []) (parts_of new.state) (record { last = e.last; run = on old.syntax old.state chars c (Ok e.last) h.run e.step; whole = e.whole; is_tag = sym (ap parts_of e.kept) }))
 tells old new c (Err (Bad kind)) g chars h =
@@ -37,14 +37,14 @@ tells old new c (Err (Bad kind)) g chars h =
 tells old new c (Err NoMemory) g chars h = tt
 
 -- the same of many characters at once, of which each goes on
-pub front_tells : (old new : TagSoFar) (bytes : List ℕ) (n : ℕ) → TakesMore old bytes n new → (chars : Chars) → TagStands old chars → GoesOn new (chars ++ take n bytes)
+pub front_tells : (old new : TagSoFar) (bytes : List ℕ) (n : ℕ) → TakesMore old bytes n new → (chars : Chars) → TagStands old chars → TagGoesOn new (chars ++ take n bytes)
 front_tells old new bytes n t chars h =
     let s = old.syntax in
     let all = chars ++ take n bytes in
     let run : tag_on s (meaning s) (Ok fresh) all ≡ Ok new.state =
     tag_on-append s (meaning s) (Ok fresh) chars (take n bytes) ∙ (ap (λ o. tag_on s (meaning s) o (take n bytes)) h.run ∙ goes_read s old.state new.state (take n bytes) t.front.goes) in
     let open_yet = (may_step old new bytes n t h.may_step).unfinished in
-    subst (λ (x : TagSoFar). GoesOn x all) (sym t.is) (record {
+    subst (λ (x : TagSoFar). TagGoesOn x all) (sym t.is) (record {
       stands = record { run = run; may_step = record { unfinished = open_yet; unrefused = h.may_step.unrefused } };
       begins = begins_from s all (record { reached = new.state; run = run; unfinished = open_yet });
       unspelled = no_tag_yet s new.state all run open_yet;
@@ -105,7 +105,7 @@ module _ (s : Syntax) (chars : Chars) where
 pub answers : (old new : TagSoFar) (c : ℕ) (r : Result TagStep TagError) → StepGives old c r new → (chars : Chars) → TagStands old chars → AnswersAll old.syntax (chars ++ c ∷ []) r
 answers old new c (Ok More) g chars h = goes_on old.syntax (chars ++ c ∷ []) new.state (on old.syntax old.state chars c (Ok new.state) h.run g.0.0) g.0.1
 answers old new c (Ok Done) g chars h =
-    let e : Ends (record { syntax = old.syntax; state = old.state }) c new.state = g.0 in
+    let e : TagReadEnds (record { syntax = old.syntax; state = old.state }) c new.state = g.0 in
     is_done old.syntax (chars ++ c ∷ []) e.last (on old.syntax old.state chars c (Ok e.last) h.run e.step) e.whole
 answers old new c (Err (Bad kind)) g chars h = is_bad old.syntax (chars ++ c ∷ []) kind (on old.syntax old.state chars c (Err kind) h.run g.0)
 answers old new c (Err NoMemory) g chars h = record { more = λ b. inr refl; done = λ spelled sp. inr refl; bad = λ kind f. inr refl }

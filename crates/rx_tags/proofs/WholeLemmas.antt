@@ -1,9 +1,9 @@
 -- An attribute that stands whole is read like its characters one after another.
-use Rattle.rx_reader.proofs.Common.{◌≡◌, ℕ, ◌+◌, ◌<◌, true, false, List, [], ◌++◌, length, take, drop, refl, ap, sym, subst, arith, get_or, zero, suc, ◌==◌, MatchBool, list_all, Chars, Syntax, TagState, Value, known_as, no_value_yet}
+use Rattle.rx_reader.proofs.Common.{◌≡◌, ℕ, ◌+◌, ◌<◌, true, false, List, [], ◌++◌, length, take, drop, refl, ap, sym, subst, arith, get_or, zero, suc, ◌==◌, MatchBool, list_all, Chars, Syntax, TagState, PartialValue, known_as, no_value_yet}
 use Rattle.std.proofs.lemmas.List.{take_rest, length-drop}
 use Rattle.rx_reader.specs.declared.phases.TagPhase.{TagPhase}
 use Rattle.rx_reader.specs.declared.phases.TagPhase.TheVariants as phase
-use Rattle.rx_tags.specs.Fronts.{is_printed, is_plain, opens_key, GoesTo, TakesFront, GainsValue, IsWhole, GainsWhole}
+use Rattle.rx_tags.specs.Fronts.{is_printed, plain_in_quotes, opens_key, GoesTo, TakesFront, GainsValue, AttributeIsWhole, GainsWhole}
 use Rattle.rx_tags.specs.Pairs.{Pairs}
 use Rattle.rx_tags.specs.TagReads.{state_of, is_value_phase, IsSettled}
 use Rattle.rx_tags.proofs.OnLemmas.{skips, ends}
@@ -15,13 +15,13 @@ taken_at s a b c bytes i d k e f p g =
     takes_one s a b c bytes i k f (subst (λ (x : ℕ). is_printed x ≡ true) (sym e) p) (subst (λ (x : ℕ). GoesTo s b x c) (sym e) g)
 
 -- its value, which may be empty
-gained : (old : Pairs) (front : Chars) (n : ℕ) → old.value ≡ no_value_yet → (n ≡ 0 → front ≡ []) → list_all is_plain front ≡ true → MatchBool (n == 0) (valued old front ≡ old) (GainsValue old front (valued old front))
+gained : (old : Pairs) (front : Chars) (n : ℕ) → old.value ≡ no_value_yet → (n ≡ 0 → front ≡ []) → list_all plain_in_quotes front ≡ true → MatchBool (n == 0) (valued old front ≡ old) (GainsValue old front (valued old front))
 gained old front zero v z h = rw (z refl) (λ i. record { whole = old.whole; key = old.key; value = sym v i })
 gained old front (suc n) v z h =
-    let more : GainsValue old front (valued old front) = record { plain = h; outside = ap (λ (x : Value). x.phase) v; is = λ i. record { whole = old.whole; key = old.key; value = known_as ((sym v i).known ++ front) } } in
+    let more : GainsValue old front (valued old front) = record { plain = h; outside = ap (λ (x : PartialValue). x.phase) v; is = λ i. record { whole = old.whole; key = old.key; value = known_as ((sym v i).known ++ front) } } in
     chosen (suc n) (valued old front ≡ old) (GainsValue old front (valued old front)) (λ k. absurd (omega (arith, k))) more
 
-module _ (s : Syntax) (name : Chars) (old new : Pairs) (bytes : List ℕ) (n v : ℕ) (w : IsWhole bytes n v) (e : old.value ≡ no_value_yet) where
+module _ (s : Syntax) (name : Chars) (old new : Pairs) (bytes : List ℕ) (n v : ℕ) (w : AttributeIsWhole bytes n v) (e : old.value ≡ no_value_yet) where
   abbrev value_at : List ℕ
   value_at = take v (drop (n + 2) bytes)
 
@@ -58,5 +58,5 @@ module _ (s : Syntax) (name : Chars) (old new : Pairs) (bytes : List ℕ) (n v :
       (ends s phase.DoubleQuoted name valued_all new 34 refl (value_at, refl, g.is))
 
 -- where an attribute's name is read no value is begun
-pub unbegun : (p : TagPhase) (value : Value) → opens_key p ≡ true → IsSettled p value → value ≡ no_value_yet
+pub unbegun : (p : TagPhase) (value : PartialValue) → opens_key p ≡ true → IsSettled p value → value ≡ no_value_yet
 unbegun p value q settled = settled (on_key (λ x. is_value_phase x ≡ false) p q refl refl)

@@ -16,8 +16,8 @@ abbrev pub is_printed : ℕ → Bool
 is_printed c = between 32 126 c
 
 -- one that is itself in each value in quotes: no quote, no `&` and no `<`
-abbrev pub is_plain : ℕ → Bool
-is_plain c = is_printed c && not (c == quotation_mark || c == ampersand || c == apostrophe || c == less_than_sign)
+abbrev pub plain_in_quotes : ℕ → Bool
+plain_in_quotes c = is_printed c && not (c == quotation_mark || c == ampersand || c == apostrophe || c == less_than_sign)
 
 -- a to z, which go on with each name
 abbrev pub is_small : ℕ → Bool
@@ -43,10 +43,10 @@ is_naming phase.EndStart = true
 is_naming _ = false
 
 -- the phase behind such a letter
-abbrev pub named : TagPhase → TagPhase
-named phase.Start = phase.Name
-named phase.EndStart = phase.EndName
-named p = p
+abbrev pub after_letter : TagPhase → TagPhase
+after_letter phase.Start = phase.Name
+after_letter phase.EndStart = phase.EndName
+after_letter p = p
 
 -- a small letter belongs to an attribute's name
 abbrev pub opens_key : TagPhase → Bool
@@ -61,27 +61,27 @@ pub record OpensValue (bytes : List ℕ) (at : ℕ) : Type 0 where
   pub quote : get_or bytes (at + 1) 0 ≡ quotation_mark
 
 -- An attribute stands whole at the front: a name in small letters, `="`, a value of plain characters, and its quote.
-pub record IsWhole (bytes : List ℕ) (name value : ℕ) : Type 0 where
+pub record AttributeIsWhole (bytes : List ℕ) (name value : ℕ) : Type 0 where
   pub some : 0 < name
   pub small : list_all is_small (take name bytes) ≡ true
   pub opens : OpensValue bytes name
   pub fits : name + 2 + value < length bytes
-  pub plain : list_all is_plain (take value (drop (name + 2) bytes)) ≡ true
+  pub plain : list_all plain_in_quotes (take value (drop (name + 2) bytes)) ≡ true
   pub quote : get_or bytes (name + 2 + value) 0 ≡ quotation_mark
 
 -- Nothing but the phase changes by the character, in which no value is read.
-pub record Skips (old : TagPhase) (c : ℕ) (next : TagPhase) : Type 0 where
+pub record SkipsCharacter (old : TagPhase) (c : ℕ) (next : TagPhase) : Type 0 where
   pub move : (syntax : Syntax) → move_of syntax old c ≡ go next action.Skip
   pub unfinished : is_last next ≡ false
   pub printed : is_printed c ≡ true
   pub outside : is_value_phase old ≡ false
 
 abbrev pub SkipGives : TagPhase → ℕ → Option TagPhase → Type 0
-SkipGives old c (Some next) = Skips old c next
+SkipGives old c (Some next) = SkipsCharacter old c next
 SkipGives old c None = Unit {0}
 
 -- A `>` ends the tag, and nothing else changes by it, since no value is read.
-pub record Closes (old last : TagPhase) : Type 0 where
+pub record ClosesTag (old last : TagPhase) : Type 0 where
   pub move : (syntax : Syntax) → move_of syntax old greater_than_sign ≡ go last action.Skip
   pub whole : is_last last ≡ true
   pub outside : is_value_phase old ≡ false
@@ -107,7 +107,7 @@ TakesOn syntax old bytes taken n new = (start : TagState) → TakesFront syntax 
 
 -- The value that is read has these characters more, which no run stands before.
 pub record GainsValue (old : Pairs) (front : Chars) (new : Pairs) : Type 0 where
-  pub plain : list_all is_plain front ≡ true
+  pub plain : list_all plain_in_quotes front ≡ true
   pub outside : old.value.phase ≡ run.Plain
   pub is : new ≡ record { whole = old.whole; key = old.key; value = known_as (old.value.known ++ front) }
 

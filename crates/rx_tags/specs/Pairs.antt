@@ -3,16 +3,16 @@ use Rattle.std.specs.Prelude.{◌≡◌, ℕ, Bool, true, not, ◌||◌, List, [
 use Rattle.rx_grammar.specs.Common.{list_all, ampersand, is_ascii, Chars, Syntax, meaning, firsts, has_repeat, Attribute}
 use Rattle.rx_reader.specs.declared.phases.RunPhase.{RunPhase}
 use Rattle.rx_reader.specs.declared.phases.RunPhase.TheVariants as run
-use Rattle.rx_reader.specs.Tables.{is_html}
-use Rattle.rx_reader.specs.Values.{Value, no_value_yet, value_step, value_end, is_run}
-use Rattle.rx_tags.specs.Reading.{Reading}
+use Rattle.rx_reader.specs.Tables.{is_html_syntax}
+use Rattle.rx_reader.specs.Values.{PartialValue, no_value_yet, value_step, value_end, is_run}
+use Rattle.rx_tags.specs.Reading.{AttributeReading}
 use Rattle.rx_tags.specs.declared.pairs.TagError.{TagError}
 use Rattle.rx_tags.specs.declared.pairs.TagError.TheVariants.{Bad, NoMemory}
 
 pub record Pairs : Type 0 where
   pub whole : List Attribute
   pub key : Chars
-  pub value : Value
+  pub value : PartialValue
 
 abbrev pub no_pairs : Pairs
 no_pairs = record { whole = []; key = []; value = no_value_yet }
@@ -21,18 +21,18 @@ abbrev pub after_first : Chars → Chars
 after_first [] = []
 after_first (c ∷ text) = text
 
-abbrev pub pairs_read : RunPhase → Reading → Pairs
+abbrev pub pairs_read : RunPhase → AttributeReading → Pairs
 pairs_read phase reading =
     record { whole = reading.whole; key = reading.key; value = record { phase = phase; known = reading.known; run = after_first reading.pending } }
 
 -- a run stands after `&`, and is ASCII
-abbrev pub IsPending : RunPhase → Chars → Type 0
-IsPending run.Plain pending = pending ≡ []
-IsPending _ pending = (pending ≡ ampersand ∷ after_first pending) × (list_all is_ascii (after_first pending) ≡ true)
+abbrev pub IsPendingRun : RunPhase → Chars → Type 0
+IsPendingRun run.Plain pending = pending ≡ []
+IsPendingRun _ pending = (pending ≡ ampersand ∷ after_first pending) × (list_all is_ascii (after_first pending) ≡ true)
 
 -- XHTML has no run that is no reference
 abbrev pub may_end : Syntax → RunPhase → Bool
-may_end syntax phase = is_html syntax || not (is_run phase)
+may_end syntax phase = is_html_syntax syntax || not (is_run phase)
 
 -- one more character of the value
 abbrev pub TakeGives : Syntax → Pairs → ℕ → Result (Unit {0}) TagError → Pairs → Type 0

@@ -10,8 +10,8 @@ abbrev pub has_text : BTreeSet (Bor (List ℕ)) → List ℕ → Bool
 has_text names text = contains_by (λ name. slice_cmp nat_cmp text name.now) names
 
 -- whether a row has a name of these bytes
-abbrev pub is_named : List ℕ → List AttributeSpan → List ℕ → Bool
-is_named text rows name = list_any (λ row. same (piece text row.start row.middle) name) rows
+abbrev pub row_has_name : List ℕ → List AttributeSpan → List ℕ → Bool
+row_has_name text rows name = list_any (λ row. same (piece text row.start row.middle) name) rows
 
 -- a name's mark, by its first byte, its last one and its length: most names of a tag have different ones
 abbrev pub mark_of : List ℕ → ℕ

@@ -9,7 +9,7 @@ use Rattle.rx_tags.specs.declared.tag_text.TagStep.{TagStep}
 use Rattle.rx_tags.specs.declared.tag_text.TagStep.TheVariants.{More, Done}
 use Rattle.rx_tags.specs.declared.pairs.TagError.{TagError}
 use Rattle.rx_tags.specs.declared.pairs.TagError.TheVariants.{Bad, NoMemory}
-use Rattle.rx_tags.specs.TagReads.{TagRead, ReadGives}
+use Rattle.rx_tags.specs.TagReads.{TagRead, TagReadGives}
 use Rattle.rx_tags.specs.Fronts.{TakesFront}
 use Rattle.rx_tags.specs.Lists.{ClosesAt}
 
@@ -33,9 +33,9 @@ pub record MayStep (tag : TagSoFar) : Type 0 where
 -- one more character, exactly by the reader
 abbrev pub StepGives : TagSoFar → ℕ → Result TagStep TagError → TagSoFar → Type 0
 StepGives old c (Ok step) new =
-    ReadGives (read_of old) c (Ok step) new.state × (new ≡ record { syntax = old.syntax; state = new.state; refused = old.refused })
+    TagReadGives (read_of old) c (Ok step) new.state × (new ≡ record { syntax = old.syntax; state = new.state; refused = old.refused })
 StepGives old c (Err (Bad kind)) new =
-    ReadGives (read_of old) c (Err (Bad kind)) new.state × (new ≡ record { syntax = old.syntax; state = fresh; refused = true })
+    TagReadGives (read_of old) c (Err (Bad kind)) new.state × (new ≡ record { syntax = old.syntax; state = fresh; refused = true })
 StepGives old c (Err NoMemory) new = new ≡ old
 
 -- The first n bytes are characters with which the tag goes on, by so many steps that answer `More`.
@@ -59,14 +59,14 @@ pub record TagStands (tag : TagSoFar) (chars : Chars) : Type 0 where
   pub may_step : MayStep tag
 
 -- They stand on: they begin a tag in which no fault stands, and spell none yet.
-pub record GoesOn (tag : TagSoFar) (chars : Chars) : Type 0 where
+pub record TagGoesOn (tag : TagSoFar) (chars : Chars) : Type 0 where
   pub stands : TagStands tag chars
   pub begins : BeginsTag tag.syntax chars
   pub unspelled : (spelled : Tag) → SpellsTag tag.syntax chars spelled → ⊥
 
 -- what a step's answer tells of the characters through its own
 abbrev pub StepTells : Chars → Result TagStep TagError → TagSoFar → Type 0
-StepTells chars (Ok More) new = GoesOn new chars
+StepTells chars (Ok More) new = TagGoesOn new chars
 StepTells chars (Ok Done) new = SpellsTag new.syntax chars (parts_of new.state)
 StepTells chars (Err (Bad kind)) new = TagFault new.syntax kind chars
 StepTells chars (Err NoMemory) new = Unit {0}

@@ -5,7 +5,7 @@ use Rattle.rx_reader.specs.declared.phases.TagPhase.{TagPhase}
 use Rattle.rx_reader.specs.declared.phases.TagPhase.TheVariants as phase
 use Rattle.rx_reader.specs.declared.phases.TagAction.{TagAction}
 use Rattle.rx_reader.specs.declared.phases.TagAction.TheVariants as action
-use Rattle.rx_reader.specs.Values.{Value, no_value_yet}
+use Rattle.rx_reader.specs.Values.{PartialValue, no_value_yet}
 use Rattle.rx_reader.specs.Tables.{is_last}
 use Rattle.rx_reader.specs.TagReader.{TagState, done_by, checked, tag_step}
 use Rattle.rx_tags.specs.Pairs.{Pairs}
@@ -28,7 +28,7 @@ is_value_phase phase.SingleQuoted = true
 is_value_phase phase.Unquoted = true
 is_value_phase _ = false
 
-abbrev pub IsSettled : TagPhase → Value → Type 0
+abbrev pub IsSettled : TagPhase → PartialValue → Type 0
 IsSettled phase value = is_value_phase phase ≡ false → value ≡ no_value_yet
 
 -- what an action does, whatever the phases before and after it
@@ -44,41 +44,41 @@ abbrev pub firsts_of : TagState → TagState
 firsts_of s = record { phase = s.phase; name = s.name; attributes = firsts s.attributes; key = s.key; value = s.value }
 
 -- the reader has read the tag to its `>`, and it is kept without the attributes whose name stands before them
-pub record Ends (old : TagRead) (c : ℕ) (new : TagState) : Type 0 where
+pub record TagReadEnds (old : TagRead) (c : ℕ) (new : TagState) : Type 0 where
   pub last : TagState
   pub step : tag_step old.syntax (meaning old.syntax) old.state c ≡ Ok last
   pub whole : is_last last.phase ≡ true
   pub kept : new ≡ firsts_of last
 
 -- one more character
-abbrev pub ReadGives : TagRead → ℕ → Result TagStep TagError → TagState → Type 0
-ReadGives old c (Ok More) new = (tag_step old.syntax (meaning old.syntax) old.state c ≡ Ok new) × (is_last new.phase ≡ false)
-ReadGives old c (Ok Done) new = Ends old c new
-ReadGives old c (Err (Bad kind)) new = tag_step old.syntax (meaning old.syntax) old.state c ≡ Err kind
-ReadGives old c (Err NoMemory) new = Unit {0}
+abbrev pub TagReadGives : TagRead → ℕ → Result TagStep TagError → TagState → Type 0
+TagReadGives old c (Ok More) new = (tag_step old.syntax (meaning old.syntax) old.state c ≡ Ok new) × (is_last new.phase ≡ false)
+TagReadGives old c (Ok Done) new = TagReadEnds old c new
+TagReadGives old c (Err (Bad kind)) new = tag_step old.syntax (meaning old.syntax) old.state c ≡ Err kind
+TagReadGives old c (Err NoMemory) new = Unit {0}
 
 -- one that doesn't end the tag
 abbrev pub GoGives : TagRead → ℕ → Result (Unit {0}) TagError → TagState → Type 0
-GoGives old c (Ok done) new = ReadGives old c (Ok More) new
-GoGives old c (Err error) new = ReadGives old c (Err error) new
+GoGives old c (Ok done) new = TagReadGives old c (Ok More) new
+GoGives old c (Err error) new = TagReadGives old c (Err error) new
 
 -- With this action a tag is read to its `>`.
-abbrev pub CanEnd : TagAction → Value → Type 0
+abbrev pub CanEnd : TagAction → PartialValue → Type 0
 CanEnd action.Skip value = value ≡ no_value_yet
 CanEnd action.Add value = Unit {0}
 CanEnd _ value = ⊥
 
-abbrev pub EndsTag : TagPhase → TagAction → Value → Type 0
+abbrev pub EndsTag : TagPhase → TagAction → PartialValue → Type 0
 EndsTag phase action value = (is_last phase ≡ true) × CanEnd action value
 
 -- what the attributes are at the tag's `>`, and of those of one name the first
-abbrev pub EndGives : Syntax → TagAction → Pairs → Result Bool TagError → Pairs → Type 0
-EndGives syntax action old (Ok repeated) new =
+abbrev pub TagReadEndGives : Syntax → TagAction → Pairs → Result Bool TagError → Pairs → Type 0
+TagReadEndGives syntax action old (Ok repeated) new =
     (whole : Pairs) × ((p q : TagPhase) (c : ℕ) (name : Chars) → done_by syntax (meaning syntax) (state_of p name old) c q action ≡ Ok (state_of q name whole))
     × (whole.value ≡ no_value_yet) × (repeated ≡ has_repeat whole.whole) × (new ≡ record whole { whole = firsts whole.whole })
-EndGives syntax action old (Err (Bad kind)) new =
+TagReadEndGives syntax action old (Err (Bad kind)) new =
     (p q : TagPhase) (c : ℕ) (name : Chars) → done_by syntax (meaning syntax) (state_of p name old) c q action ≡ Err kind
-EndGives syntax action old (Err NoMemory) new = Unit {0}
+TagReadEndGives syntax action old (Err NoMemory) new = Unit {0}
 
 -- the tag's `>`
 abbrev pub FinishGives : TagRead → TagPhase → TagAction → Result (Unit {0}) TagError → TagState → Type 0

@@ -35,13 +35,13 @@ pub(crate) struct Attributes {
 }
 
 impl Model for Attributes {
-    ghost use Rattle.rx_tags.specs.Reading.{Reading, read_as, Fits};
+    ghost use Rattle.rx_tags.specs.Reading.{AttributeReading, read_as, SpansFit};
 
-    ghost Value = { Reading };
+    ghost Value = { AttributeReading };
 
     ghost view = { λ a. read_as a.text.items a.rows.items a.start a.middle a.end };
 
-    ghost invariant = { λ a. Fits a.text.items a.rows.items a.start a.middle a.end };
+    ghost invariant = { λ a. SpansFit a.text.items a.rows.items a.start a.middle a.end };
 }
 
 impl Attributes {

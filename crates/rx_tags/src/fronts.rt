@@ -17,7 +17,7 @@ pub(crate) fn is_printed(byte: u8) -> bool
 
 // One that is itself in each value in quotes. Most are letters, which are told first.
 fn is_plain(byte: u8) -> bool
-    ensures { result ≡ fronts.is_plain byte }
+    ensures { result ≡ fronts.plain_in_quotes byte }
 {
     if byte > b'<' {
         return byte <= b'~';
@@ -62,7 +62,7 @@ pub(crate) fn is_naming(phase: TagPhase) -> bool
 
 /// The phase behind such a letter.
 pub(crate) fn named(phase: TagPhase) -> TagPhase
-    ensures { result ≡ fronts.named phase }
+    ensures { result ≡ fronts.after_letter phase }
 {
     match phase {
         TagPhase::Start => TagPhase::Name,
@@ -95,7 +95,7 @@ pub(crate) fn skip(phase: TagPhase, byte: u8) -> Option<TagPhase>
 
 /// The phase behind a `>` that surely ends the tag, where no attribute is read.
 pub(crate) fn closed(phase: TagPhase) -> Option<TagPhase>
-    ensures { IfSome result (fronts.Closes phase) }
+    ensures { IfSome result (fronts.ClosesTag phase) }
 {
     match phase {
         TagPhase::Name | TagPhase::Gap | TagPhase::AfterValue => Some(TagPhase::Opened),
@@ -115,7 +115,7 @@ fn opens_value(bytes: &[u8], at: usize) -> bool
 /// The lengths of the name and of the value of an attribute that stands whole at the front.
 #[inline(always)]
 pub(crate) fn whole_lengths(bytes: &[u8]) -> Option<(usize, usize)>
-    ensures { IfSome result (λ lengths. fronts.IsWhole bytes.now lengths.0 lengths.1) }
+    ensures { IfSome result (λ lengths. fronts.AttributeIsWhole bytes.now lengths.0 lengths.1) }
 {
     let name = small_length(bytes);
     if name == 0 || !opens_value(bytes, name) {
@@ -154,7 +154,7 @@ fn ends_small(bytes: u8x16) -> u64
 #[inline(always)]
 pub(crate) fn plain_length(bytes: &[u8]) -> usize
     ensures fits { result ≤ length bytes.now }
-    ensures plain { list_all fronts.is_plain (take result bytes.now) ≡ true }
+    ensures plain { list_all fronts.plain_in_quotes (take result bytes.now) ≡ true }
 {
     let mut count = 0;
     while bytes.len() - count >= 16 {
@@ -171,9 +171,9 @@ pub(crate) fn plain_length(bytes: &[u8]) -> usize
 #[inline(never)]
 fn plain_slowly(bytes: &[u8], from: usize) -> usize
     requires from { from ≤ length bytes.now }
-    requires plain { list_all fronts.is_plain (take from bytes.now) ≡ true }
+    requires plain { list_all fronts.plain_in_quotes (take from bytes.now) ≡ true }
     ensures fits { result ≤ length bytes.now }
-    ensures plain { list_all fronts.is_plain (take result bytes.now) ≡ true }
+    ensures plain { list_all fronts.plain_in_quotes (take result bytes.now) ≡ true }
 {
     let mut count = from;
     while count < bytes.len() && is_plain(bytes[count]) {

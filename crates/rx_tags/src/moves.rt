@@ -112,7 +112,7 @@ pub(crate) fn move_at(syntax: Syntax, phase: TagPhase, c: char) -> Option<(TagPh
 }
 
 fn in_name(syntax: Syntax, c: char) -> Option<(TagPhase, TagAction)>
-    ensures { result ≡ tables.in_name syntax c }
+    ensures { result ≡ tables.in_attribute_name syntax c }
 {
     match c {
         '/' => Some((TagPhase::Solidus, TagAction::Skip)),

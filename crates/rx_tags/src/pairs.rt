@@ -43,13 +43,13 @@ pub(crate) struct Pairs {
 }
 
 impl Model for Pairs {
-    ghost use Rattle.rx_tags.specs.Pairs.{Pairs as PairsRead, pairs_read, IsPending};
+    ghost use Rattle.rx_tags.specs.Pairs.{Pairs as PairsRead, pairs_read, IsPendingRun};
 
     ghost Value = { PairsRead };
 
     ghost view = { λ p. pairs_read p.run p.attributes };
 
-    ghost invariant = { λ p. IsPending p.run p.attributes.pending };
+    ghost invariant = { λ p. IsPendingRun p.run p.attributes.pending };
 }
 
 impl Pairs {
@@ -169,7 +169,7 @@ impl Pairs {
 }
 
 impl Pairs {
-    ghost use Rattle.rx_tags.specs.Fronts.{GainsWhole, IsWhole};
+    ghost use Rattle.rx_tags.specs.Fronts.{AttributeIsWhole, GainsWhole};
     ghost use Rattle.rx_tags.specs.Pairs.{AddKeyGives};
 
     /// Adds the attribute that stands whole at the front, where no value was begun.
@@ -181,7 +181,7 @@ impl Pairs {
         value: usize,
     ) -> Result<(), NoMemory>
         requires begun { self.old.value ≡ no_value_yet }
-        requires whole { IsWhole bytes.now name value }
+        requires whole { AttributeIsWhole bytes.now name value }
         ensures ok { OnOk result (GainsWhole self.old bytes.now name value self.new) }
         ensures err { OnErr result (self.new ≡ self.old) }
     {

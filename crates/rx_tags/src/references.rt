@@ -94,7 +94,7 @@ fn number(base: u32, digits: &[u8]) -> u32
 
 // The number of what stands after `#`.
 fn number_after(body: &[u8]) -> u32
-    ensures { result ≡ capped (texts.number_of body.now) }
+    ensures { result ≡ capped (texts.reference_code body.now) }
 {
     match body {
         [] => 0,

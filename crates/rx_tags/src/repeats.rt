@@ -2,7 +2,7 @@
 ghost use Rattle.std.specs.Prelude.{◌≡◌, ◌<◌, ℕ, List, ◌||◌, not, true, false, length, IfOk, MatchOption, OnOk};
 ghost use Rattle.rx_grammar.specs.Common.{same, firsts, has_repeat};
 ghost use Rattle.rx_tags.specs.Reading.{rows_read, RowsFit};
-ghost use Rattle.rx_tags.specs.Repeats.{has_text, is_named, mark_of, KeepsFirsts};
+ghost use Rattle.rx_tags.specs.Repeats.{has_text, row_has_name, mark_of, KeepsFirsts};
 
 use crate::attributes::AttributeSpan;
 use crate::texts::text_between;
@@ -127,7 +127,7 @@ fn has_pair(text: &[u8], rows: &[AttributeSpan]) -> bool
 // Whether one of the rows has the name.
 fn is_name_of(text: &[u8], rows: &[AttributeSpan], name: &str) -> bool
     requires { RowsFit text.now (length text.now) rows.now }
-    ensures { result ≡ is_named text.now rows.now name.now }
+    ensures { result ≡ row_has_name text.now rows.now name.now }
 {
     for row in rows {
         if is_same(text_between(text, row.start, row.middle), name) {

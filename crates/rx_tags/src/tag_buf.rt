@@ -4,7 +4,7 @@ ghost use Rattle.rx_grammar.specs.Common.{Chars, SpellsTag};
 ghost use Rattle.rx_reader.specs.Tables.{is_last};
 ghost use Rattle.rx_reader.specs.TagReader.{parts_of};
 ghost use Rattle.rx_tags.specs.Seen.{tag_seen};
-ghost use Rattle.rx_tags.specs.TagBufs.{no_tag, MayStep, StepGives, TakesMore, TakesWhole, TagStands, GoesOn, StepTells, AnswersAll};
+ghost use Rattle.rx_tags.specs.TagBufs.{no_tag, MayStep, StepGives, TakesMore, TakesWhole, TagStands, TagGoesOn, StepTells, AnswersAll};
 
 use crate::pairs::TagError;
 use crate::tag_text::{TagStep, TagText};
@@ -96,7 +96,7 @@ impl TagBuf {
         ensures takes { TakesMore self.old bytes.now result self.new }
         ensures none { result ≡ 0 → self.new ≡ self.old }
         ensures may_step { MayStep self.new }
-        ensures tells { (chars : Chars) → TagStands self.old chars → GoesOn self.new (chars ++ take result bytes.now) }
+        ensures tells { (chars : Chars) → TagStands self.old chars → TagGoesOn self.new (chars ++ take result bytes.now) }
     {
         self.read_front(bytes)
     }

@@ -1,9 +1,9 @@
 //! The text of one tag, read a character at a time.
 ghost use Rattle.std.specs.Prelude.{◌≡◌, ◌≤◌, true, [], ◌∷◌, ◌++◌, ◌&&◌, not, length, IfErr, OnErr, OnOk};
 ghost use Rattle.std.specs.Str.{chars};
-ghost use Rattle.rx_reader.specs.Tables.{is_html};
+ghost use Rattle.rx_reader.specs.Tables.{is_html_syntax};
 ghost use Rattle.rx_reader.specs.Values.{no_value_yet};
-ghost use Rattle.rx_tags.specs.TagReads.{ActGives, CanEnd, EndGives};
+ghost use Rattle.rx_tags.specs.TagReads.{ActGives, CanEnd, TagReadEndGives};
 
 use crate::fronts::{
     closed, ends_value, is_naming, is_printed, is_quoted, named, opens_key, skip, small_length,
@@ -76,11 +76,11 @@ impl TagText {
     ghost use Rattle.std.specs.Prelude.{Some, false};
     ghost use Rattle.rx_reader.specs.Tables as tables;
     ghost use Rattle.rx_reader.specs.Tables.{move_of};
-    ghost use Rattle.rx_tags.specs.TagReads.{ReadGives, GoGives, Ends, EndsTag, FinishGives, KeepsAtNoMemory};
+    ghost use Rattle.rx_tags.specs.TagReads.{TagReadGives, GoGives, TagReadEnds, EndsTag, FinishGives, KeepsAtNoMemory};
 
     /// Reads one more character, and at the tag's `>` keeps the first attribute of each name.
     pub(crate) fn step(&mut self, alloc: Global, c: char) -> Result<TagStep, TagError>
-        ensures gives { ReadGives self.old c result self.new.state }
+        ensures gives { TagReadGives self.old c result self.new.state }
         ensures syntax { self.new.syntax ≡ self.old.syntax }
         ensures memory { KeepsAtNoMemory result self.old self.new }
     {
@@ -102,7 +102,7 @@ impl TagText {
     /// Whether this is the tag's `>`, with at most two attributes and none underway, as in most tags. Then the tag is whole.
     #[inline(always)]
     pub(crate) fn closes(&mut self, c: char) -> bool
-        ensures ends { result ≡ true → Ends self.old c self.new.state }
+        ensures ends { result ≡ true → TagReadEnds self.old c self.new.state }
         ensures same { result ≡ false → self.new ≡ self.old }
         ensures syntax { self.new.syntax ≡ self.old.syntax }
     {
@@ -508,7 +508,7 @@ impl TagText {
 
 // XHTML refuses a name that stands twice.
 fn refuses(syntax: Syntax, repeated: bool) -> bool
-    ensures { result ≡ (not (is_html syntax) && repeated) }
+    ensures { result ≡ (not (is_html_syntax syntax) && repeated) }
 {
     syntax == Syntax::Xhtml && repeated
 }
@@ -544,7 +544,7 @@ fn end_pairs(
     pairs: &mut Pairs,
 ) -> Result<bool, TagError>
     requires { CanEnd action pairs.old.value }
-    ensures gives { EndGives syntax action pairs.old result pairs.new }
+    ensures gives { TagReadEndGives syntax action pairs.old result pairs.new }
     ensures err { OnErr result (pairs.new ≡ pairs.old) }
 {
     if action == TagAction::Add {

@@ -115,3 +115,6 @@ is_white_space c = c == tab || c == line_feed || c == form_feed || c == carriage
 -- A to Z in lower case, every other character as it is
 abbrev pub lowered_char : ℕ → ℕ
 lowered_char c = if between 65 90 c then c + 32 else c
+
+abbrev pub digit_zero : ℕ
+digit_zero = 48

@@ -48,6 +48,6 @@ unfoldable pub number_of : Chars → ℕ
 number_of text = sip.finish (sip.write sip.initial (encode_utf8_all text))
 
 -- what is kept of an IRI: its text, and the number of that
-pub record IsKept (text : Chars) (number : ℕ) : Type 0 where
+pub record IsKeptIri (text : Chars) (number : ℕ) : Type 0 where
   pub is_iri : IsIri text
   pub is_number : number ≡ number_of text

@@ -48,13 +48,13 @@ pub record IsSameTriple (a b : Triple) : Type 0 where
   pub object : IsSameTerm a.object b.object
 
 -- the literal isn't an xsd:string that is written as a typed one
-abbrev pub IsProper : Literal → Type 0
-IsProper literal = literal.kind ≢ Typed xsd_string
+abbrev pub IsProperLiteral : Literal → Type 0
+IsProperLiteral literal = literal.kind ≢ Typed xsd_string
 
 abbrev pub IsProperTerm : Term → Type 0
 IsProperTerm (term.Iri iri) = Unit {0}
 IsProperTerm (term.Blank blank) = Unit {0}
-IsProperTerm (term.Literal literal) = IsProper literal
+IsProperTerm (term.Literal literal) = IsProperLiteral literal
 
 -- values of proper literals are equal exactly where RDF says so
 abbrev pub EqualAsInRdf : Type 0

@@ -35,11 +35,11 @@ impl Model for Iri {
 
     ghost Value = { List ℕ };
 
-    ghost use Rattle.rx_terms.specs.Iri.{IsKept};
+    ghost use Rattle.rx_terms.specs.Iri.{IsKeptIri};
 
     ghost view = { λ iri. chars (string_bytes iri.kept.value.text) };
 
-    ghost invariant = { λ iri. IsKept (chars (string_bytes iri.kept.value.text)) iri.kept.value.number };
+    ghost invariant = { λ iri. IsKeptIri (chars (string_bytes iri.kept.value.text)) iri.kept.value.number };
 }
 
 /// Why a text is no IRI.

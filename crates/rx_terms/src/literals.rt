@@ -40,12 +40,12 @@ impl LiteralKind {
 }
 
 impl Literal {
-    ghost use Rattle.rx_terms.specs.Literal.{typed_literal, IsProper};
+    ghost use Rattle.rx_terms.specs.Literal.{typed_literal, IsProperLiteral};
 
     /// The literal of this datatype. That of xsd:string is plain, so that equal literals are equal values.
     pub fn typed(lexical: Text, datatype: Iri) -> Literal
         ensures typed { result ≡ typed_literal lexical datatype }
-        ensures proper { IsProper result }
+        ensures proper { IsProperLiteral result }
     {
         if datatype.as_str() == XSD_STRING {
             return Literal {

@@ -1,5 +1,5 @@
 -- What is written of triples that are cut where their key changes.
-use Rattle.rx_turtle.proofs.Common.{chars, nat_tests, drop-map, Chars, ascii-chars, Node, Triple, Prefixes, separated, Delivery, Adds, adds_then, adds_nothing, adds_by, adds_failed, Keyed, key_by, has_key, all_in, put_before, runs, said_in}
+use Rattle.rx_turtle.proofs.Common.{chars, nat_tests, drop-map, Chars, ascii-chars, Node, Triple, Prefixes, separated, Delivery, Adds, adds_then, adds_nothing, adds_by, adds_failed, Keyed, group_key, has_key, all_in, put_before, runs, said_in}
 use Rattle.std.proofs.Common.{◌≡◌, ◌∙◌, ℕ, zero, suc, ◌+◌, ◌<◌, ◌≤◌, Bool, true, false, List, [], ◌∷◌, ◌++◌, map, flat_map, length, length-append, take, drop, drop_of_length-le, Bor, refl, sym, ap, ap₂, arith, append_assoc, append-nil, codes, drop_at, ◌==◌, take-append-drop, if◌then◌else◌}
 use Rattle.rx_terms.proofs.Bools.{by_test}
 use Rattle.rx_terms.specs.declared.triples.Triple.{Triple as CodeTriple}
@@ -75,7 +75,7 @@ none_left kind list n past = ap (runs kind) (drop_of_length-le list past)
 
 some_left : (kind : By) (list : List (Triple ℕ)) (at : ℕ) → at < length list → (group : Keyed) × (groups : List Keyed) × (runs kind (drop at list) ≡ group ∷ groups)
 some_left kind [] at less = absurd (omega (arith, less))
-some_left kind (t ∷ list) zero less = let first = first_key kind t (runs kind list) in ((key_by kind t, first.0), first.1, first.2)
+some_left kind (t ∷ list) zero less = let first = first_key kind t (runs kind list) in ((group_key kind t, first.0), first.1, first.2)
 some_left kind (t ∷ list) (suc at) less = some_left kind list at (omega (arith, less))
 
 -- ---- statements

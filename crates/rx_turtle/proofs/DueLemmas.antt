@@ -1,5 +1,5 @@
 -- Stacks of tasks, and what is pushed on them.
-use Rattle.rx_turtle.proofs.Common.{◌≡◌, ◌∙◌, ◌↔◌, ℕ, zero, suc, ◌+◌, ◌-◌, ◌<◌, ◌≤◌, ◌==◌, Bool, true, false, true≢false, List, [], ◌∷◌, ◌++◌, map, length, Bor, slice_get, Option, Some, None, option_to_list, IsSome, MatchOption, refl, sym, ap, ap₂, arith, append_assoc, if◌then◌else◌, nat_tests, Node, Term, Triple, Keyed, key_by, has_key, put_before, runs, Fixed, IriOrLabel, Verb, Due, Say, Object, task_seen, due_on, behind, object_due, line_due, lines_due, verb_due, behind_due, tail_due, next_due, first_due, tail_at, bracket_due, item_due, rest_due, statement_due}
+use Rattle.rx_turtle.proofs.Common.{◌≡◌, ◌∙◌, ◌↔◌, ℕ, zero, suc, ◌+◌, ◌-◌, ◌<◌, ◌≤◌, ◌==◌, Bool, true, false, true≢false, List, [], ◌∷◌, ◌++◌, map, length, Bor, slice_get, Option, Some, None, option_to_list, IsSome, MatchOption, refl, sym, ap, ap₂, arith, append_assoc, if◌then◌else◌, nat_tests, Node, Term, Triple, Keyed, group_key, has_key, put_before, runs, Fixed, IriOrLabel, Verb, Due, Say, Object, task_seen, due_on, behind, object_due, line_due, lines_due, verb_due, behind_due, tail_due, next_due, first_due, tail_at, bracket_due, item_due, rest_due, statement_due}
 use Rattle.rx_terms.proofs.Bools.{by_test}
 use Rattle.rx_terms.specs.declared.triples.Triple.{Triple as CodeTriple}
 use Rattle.rx_turtle.specs.declared.stack.Task.{Task}
@@ -62,19 +62,19 @@ module _ (gap : Words) where
       go _ i at next = absurd (cc)
 
   -- the objects of the first predicate behind its first one, and the other predicates
-  tail_is : (t : Triple ℕ) (more : List (Triple ℕ)) → (objects : List (Triple ℕ)) × (groups : List Keyed) × (runs by.Predicate (t ∷ more) ≡ (key_by by.Predicate t, t ∷ objects) ∷ groups)
+  tail_is : (t : Triple ℕ) (more : List (Triple ℕ)) → (objects : List (Triple ℕ)) × (groups : List Keyed) × (runs by.Predicate (t ∷ more) ≡ (group_key by.Predicate t, t ∷ objects) ∷ groups)
       × (tail_due gap t more ≡ behind object_due fixed.Comma objects ++ behind line_due gap groups)
   tail_is t [] = ([], [], refl, refl)
   tail_is t (u ∷ more) =
       let rest = tail_is u more in
-      let turn : runs by.Predicate (t ∷ u ∷ more) ≡ put_before by.Predicate t ((key_by by.Predicate u, u ∷ rest.0) ∷ rest.1) = ap (put_before by.Predicate t) rest.2 in
-      by_test (has_key by.Predicate (key_by by.Predicate u) t)
+      let turn : runs by.Predicate (t ∷ u ∷ more) ≡ put_before by.Predicate t ((group_key by.Predicate u, u ∷ rest.0) ∷ rest.1) = ap (put_before by.Predicate t) rest.2 in
+      by_test (has_key by.Predicate (group_key by.Predicate u) t)
       (λ e. (u ∷ rest.0, rest.1, turn ∙ rw e refl, rw e (ap (λ z. Say (Fixed fixed.Comma) ∷ Object u.object ∷ z) rest.3)))
       (λ e. (
         [],
-        (key_by by.Predicate u, u ∷ rest.0) ∷ rest.1,
+        (group_key by.Predicate u, u ∷ rest.0) ∷ rest.1,
         turn ∙ rw e refl,
-        rw e (ap (λ z. Say (Fixed gap) ∷ Say (Verb (key_by by.Predicate u)) ∷ Say (Fixed fixed.Space) ∷ Object u.object ∷ z) rest.3),
+        rw e (ap (λ z. Say (Fixed gap) ∷ Say (Verb (group_key by.Predicate u)) ∷ Say (Fixed fixed.Space) ∷ Object u.object ∷ z) rest.3),
       ))
 
   pub lines_are : (list : List (Triple ℕ)) → first_due list ++ tail_at gap 0 list ≡ lines_due gap (runs by.Predicate list)
@@ -98,7 +98,7 @@ some_brackets [] old mid new some e h = absurd (omega (arith, some))
 some_brackets (t ∷ list) old mid new some e h =
     let first = first_key by.Predicate t (runs by.Predicate list) in
     ap (λ z. Say (Fixed fixed.Open) ∷ z) (h ∙ ap (λ (z : List Keyed). lines_due fixed.InsideGap z ++ mid) first.2)
-    ∙ enclosed (Say (Fixed fixed.Open)) (Say (Fixed fixed.Close)) (lines_due fixed.InsideGap ((key_by by.Predicate t, first.0) ∷ first.1)) old mid _ e refl
+    ∙ enclosed (Say (Fixed fixed.Open)) (Say (Fixed fixed.Close)) (lines_due fixed.InsideGap ((group_key by.Predicate t, first.0) ∷ first.1)) old mid _ e refl
     ∙ ap (λ (z : List Keyed). bracket_due z ++ old) (sym first.2)
 
 pub said_pushed : (node : Node ℕ) (groups : List Keyed) (old end lines space new : List Due) → end ≡ Say (Fixed fixed.End) ∷ old → lines ≡ lines_due fixed.LineGap groups ++ end

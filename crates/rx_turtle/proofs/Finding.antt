@@ -1,5 +1,5 @@
 -- The place that is found by the end of an IRI is that of the prefix of its short form.
-use Rattle.rx_turtle.proofs.Common.{◌≡◌, ◌∙◌, ℕ, zero, suc, ◌+◌, ◌-◌, ◌<◌, ◌≤◌, Bool, true, false, cond, nat_lt, nat_eq, List, [], ◌∷◌, ◌++◌, filter, length, take, drop, drop_of_length-le, get_or, slice_get, Option, Some, None, inl, inr, refl, sym, ap, ap₂, subst, true≢false, arith, ◌&&◌, ◌==◌, find, if◌then◌else◌, option_or, list_all, and_parts, and_from, and_right, nat_tests, slice_get-get_or, encodes-append, encodes_same, is_ascii, Chars, begins_with, ascii-same, Among, Among_of_filter, false_unless, exact_texts, Prefix, Prefixes, is_before, is_name_char, is_prefix_name, is_local_name, local_name, shortens, preferred, best, prefix_of, names_rise, best_among, front_and_rest, before_all, not_after, passes, begins_local, stands_for, place_from, place_at, place_below, place_of, IsPlace}
+use Rattle.rx_turtle.proofs.Common.{◌≡◌, ◌∙◌, ℕ, zero, suc, ◌+◌, ◌-◌, ◌<◌, ◌≤◌, Bool, true, false, cond, nat_lt, nat_eq, List, [], ◌∷◌, ◌++◌, filter, length, take, drop, drop_of_length-le, get_or, slice_get, Option, Some, None, inl, inr, refl, sym, ap, ap₂, subst, true≢false, arith, ◌&&◌, ◌==◌, find, if◌then◌else◌, option_or, list_all, and_parts, and_from, and_right, nat_tests, slice_get-get_or, encodes-append, encodes_same, is_ascii, Chars, begins_with, ascii-same, Among, Among_of_filter, false_unless, exact_texts, Prefix, Prefixes, is_byte_less, is_name_char, is_prefix_name, is_local_name, local_name, shortens, preferred, best, prefix_of, names_rise, best_among, front_and_rest, before_all, not_after, passes, begins_local, stands_for, place_from, place_at, place_below, prefix_place, IsPlace}
 use Rattle.std.proofs.lemmas.List.{take-append-drop, get_or-drop, length-take-le, take_at, drop_at, length-append}
 use Rattle.rx_terms.proofs.Bools.{same_truth, by_test}
 use Rattle.std.specs.Str.{encode_utf8_all}
@@ -52,7 +52,7 @@ module _ (fits : Prefix → Bool) (size : Prefix → ℕ) where
       let test : nat_lt (size q) (suc n) ≡ true = parts.1 in
       let less : nat_lt (size p) (size q) ≡ false = grind (arith, nat_tests, test, s) in
       let first : nat_lt (length p.1) (length q.1) ≡ false = longer p q f parts.0 ∙ less in
-      let second : is_before q.0 p.0 ≡ false = not_after p.0 q.0 (passes p q more rise found.0) in
+      let second : is_byte_less q.0 p.0 ≡ false = not_after p.0 q.0 (passes p q more rise found.0) in
       rw (first, second, and_right (length q.1 == length p.1) false refl) refl
 
   -- a longer one is taken
@@ -266,12 +266,12 @@ module _ (context : Prefixes) (rise : names_rise context ≡ true) (iri : Chars)
       (one_or_other _ (best_below n) (place_at context text n) (place_below context text n) (place_finds (begins_local (get_or text n 0)) (take n text)) (rest all))))
       (λ e. rw e (ap best (filter_none (below (shortens iri) end_of (suc n)) context (none_before n less e))))
 
-pub place_is : (context : Prefixes) (iri : Chars) → names_rise context ≡ true → IsPlace context (prefix_of context iri) (place_of context iri)
+pub place_is : (context : Prefixes) (iri : Chars) → names_rise context ≡ true → IsPlace context (prefix_of context iri) (prefix_place context iri)
 place_is context iri rise =
     let bytes : List ℕ = encode_utf8_all iri in
     let size : ℕ = length bytes in
     let end : drop size bytes ≡ [] = drop_of_length-le bytes (omega arith) in
-    subst (λ (z : Option Prefix). IsPlace context z (place_of context iri))
+    subst (λ (z : Option Prefix). IsPlace context z (prefix_place context iri))
     (ap best (filter_same (below (shortens iri) end_of size) (shortens iri) context (λ p m. inside p)))
     (place_within context rise iri size (omega arith) (ap (list_all is_name_char) end))
   where

@@ -1,5 +1,5 @@
 -- Triples that are put into groups.
-use Rattle.rx_turtle.proofs.Common.{◌≡◌, ◌∙◌, ℕ, zero, suc, ◌+◌, ◌<◌, ◌≤◌, Bool, true, false, nat_eq, List, [], ◌∷◌, ◌++◌, map, filter, length, take, drop, slice_get, slice_set, get_or, Result, Ok, Err, is_err, Option, Some, None, option_map, Bor, refl, sym, ap, ap₂, true≢false, arith, append-nil, ◌||◌, is_ok, if◌then◌else◌, map-append, slice_get-map, contains, distinct, with_one, Node, Triple, same_node, triple_seen, exact_nodes, exact_numbers, resource_seen, number_in, AreDistinct, distinct_grows, one_more, same_back, Keyed, group_seen, key_by, has_key, keys_by, put_in, bytes_eq, Iri, exact_texts, distinct_apart, about, predicates_of, triples_seen, seen_more}
+use Rattle.rx_turtle.proofs.Common.{◌≡◌, ◌∙◌, ℕ, zero, suc, ◌+◌, ◌<◌, ◌≤◌, Bool, true, false, nat_eq, List, [], ◌∷◌, ◌++◌, map, filter, length, take, drop, slice_get, slice_set, get_or, Result, Ok, Err, is_err, Option, Some, None, option_map, Bor, refl, sym, ap, ap₂, true≢false, arith, append-nil, ◌||◌, is_ok, if◌then◌else◌, map-append, slice_get-map, contains, distinct, with_one, Node, Triple, same_node, triple_seen, exact_nodes, exact_numbers, resource_seen, number_in, AreDistinct, distinct_grows, one_more, same_back, Keyed, group_seen, group_key, has_key, keys_by, put_in, bytes_eq, Iri, exact_texts, distinct_apart, about, predicates_of, triples_seen, seen_more}
 use Rattle.rx_model.proofs.Common.{filter-append, by_test}
 use Rattle.rx_terms.specs.declared.triples.Triple.{Triple as CodeTriple}
 use Rattle.rx_turtle.specs.declared.keys.By.{By}
@@ -29,8 +29,8 @@ same_self a = (exact_nodes nat_eq exact_numbers a a).1 refl
 module _ (kind : By) where
   -- ---- the keys
 
-  pub keys_more : (list : List (Triple ℕ)) (t : Triple ℕ) → keys_by kind (list ++ t ∷ []) ≡ with_one (same_node nat_eq) (keys_by kind list) (key_by kind t)
-  keys_more list t = ap (distinct (same_node nat_eq)) (map-append (key_by kind) list (t ∷ [])) ∙ distinct_grows (same_node nat_eq) (exact_nodes nat_eq exact_numbers) (map (key_by kind) list) (key_by kind t)
+  pub keys_more : (list : List (Triple ℕ)) (t : Triple ℕ) → keys_by kind (list ++ t ∷ []) ≡ with_one (same_node nat_eq) (keys_by kind list) (group_key kind t)
+  keys_more list t = ap (distinct (same_node nat_eq)) (map-append (group_key kind) list (t ∷ [])) ∙ distinct_grows (same_node nat_eq) (exact_nodes nat_eq exact_numbers) (map (group_key kind) list) (group_key kind t)
 
   -- ---- the triples of each key
 
@@ -40,30 +40,30 @@ module _ (kind : By) where
   abbrev pub paired : (Node ℕ → List (Triple ℕ)) → List (Node ℕ) → List Keyed
   paired f keys = map {B = Keyed} (λ key. (key, f key)) keys
 
-  pub others_stay : (f : Node ℕ → List (Triple ℕ)) (t : Triple ℕ) (keys : List (Node ℕ)) → contains (same_node nat_eq) keys (key_by kind t) ≡ false → paired (with_last f t) keys ≡ paired f keys
+  pub others_stay : (f : Node ℕ → List (Triple ℕ)) (t : Triple ℕ) (keys : List (Node ℕ)) → contains (same_node nat_eq) keys (group_key kind t) ≡ false → paired (with_last f t) keys ≡ paired f keys
   others_stay f t [] h = refl
-  others_stay f t (x ∷ keys) h = by_test (same_node nat_eq x (key_by kind t)) (λ e. absurd (true≢false (rw e at h))) (λ e.
-      let test : has_key kind x t ≡ false = same_back (key_by kind t) x ∙ e in
+  others_stay f t (x ∷ keys) h = by_test (same_node nat_eq x (group_key kind t)) (λ e. absurd (true≢false (rw e at h))) (λ e.
+      let test : has_key kind x t ≡ false = same_back (group_key kind t) x ∙ e in
       let row : with_last f t x ≡ f x = rw test (append-nil (f x)) in
       ap₂ (λ (r : List (Triple ℕ)) (z : List Keyed). (x, r) ∷ z) row (others_stay f t keys (rw e at h)))
 
-  pub one_put : (f : Node ℕ → List (Triple ℕ)) (t : Triple ℕ) (keys : List (Node ℕ)) (n : ℕ) → AreDistinct keys → number_in keys (key_by kind t) ≡ Some n → put_in (paired f keys) n t ≡ paired (with_last f t) keys
+  pub one_put : (f : Node ℕ → List (Triple ℕ)) (t : Triple ℕ) (keys : List (Node ℕ)) (n : ℕ) → AreDistinct keys → number_in keys (group_key kind t) ≡ Some n → put_in (paired f keys) n t ≡ paired (with_last f t) keys
   one_put f t [] n d h = absurd (cc)
-  one_put f t (x ∷ keys) n d h = go (same_node nat_eq x (key_by kind t)) refl (number_in keys (key_by kind t)) refl h (λ m. one_put f t keys m d.1)
+  one_put f t (x ∷ keys) n d h = go (same_node nat_eq x (group_key kind t)) refl (number_in keys (group_key kind t)) refl h (λ m. one_put f t keys m d.1)
     where
-      go : (b : Bool) → same_node nat_eq x (key_by kind t) ≡ b → (o : Option ℕ) → number_in keys (key_by kind t) ≡ o → (if b then Some 0 else option_map suc o) ≡ Some n
-          → ((m : ℕ) → number_in keys (key_by kind t) ≡ Some m → put_in (paired f keys) m t ≡ paired (with_last f t) keys)
+      go : (b : Bool) → same_node nat_eq x (group_key kind t) ≡ b → (o : Option ℕ) → number_in keys (group_key kind t) ≡ o → (if b then Some 0 else option_map suc o) ≡ Some n
+          → ((m : ℕ) → number_in keys (group_key kind t) ≡ Some m → put_in (paired f keys) m t ≡ paired (with_last f t) keys)
           → put_in (paired f (x ∷ keys)) n t ≡ paired (with_last f t) (x ∷ keys)
       go true e o q k ih =
           let first : 0 ≡ n = cc in
-          let same : x ≡ key_by kind t = (exact_nodes nat_eq exact_numbers x (key_by kind t)).0 e in
-          let test : has_key kind x t ≡ true = same_back (key_by kind t) x ∙ e in
+          let same : x ≡ group_key kind t = (exact_nodes nat_eq exact_numbers x (group_key kind t)).0 e in
+          let test : has_key kind x t ≡ true = same_back (group_key kind t) x ∙ e in
           let row : f x ++ t ∷ [] ≡ with_last f t x = rw test refl in
           ap (λ m. put_in (paired f (x ∷ keys)) m t) (sym first)
           ∙ ap₂ (λ (r : List (Triple ℕ)) (z : List Keyed). (x, r) ∷ z) row (sym (others_stay f t keys (ap (contains (same_node nat_eq) keys) (sym same) ∙ d.0)))
       go false e (Some m) q k ih =
           let next : suc m ≡ n = cc in
-          let test : has_key kind x t ≡ false = same_back (key_by kind t) x ∙ e in
+          let test : has_key kind x t ≡ false = same_back (group_key kind t) x ∙ e in
           let row : f x ≡ with_last f t x = rw test (sym (append-nil (f x))) in
           ap (λ z. put_in (paired f (x ∷ keys)) z t) (sym next) ∙ ap₂ (λ (r : List (Triple ℕ)) (z : List Keyed). (x, r) ∷ z) row (ih m q)
       go false e None q k ih = absurd (cc)

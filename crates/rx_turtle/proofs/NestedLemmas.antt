@@ -1,6 +1,6 @@
 -- The text of a nested plan is that of the nested layout, and what it denotes.
-use Rattle.rx_notation.proofs.Common.{◌≡◌, ◌∙◌, ℕ, Bool, true, false, cond, nat_eq, List, [], ◌∷◌, ◌++◌, map, filter_map, flat_map, length, bytes_eq, Option, Some, None, refl, sym, ap, ap₂, subst, codes, if◌then◌else◌, chars-encodes, Chars, Among, contains, distinct, Plain, Tagged, Typed, Iri, Blank, Literal, Triple, same_triple, spo, rdf_type, Among_map, Among_of_map, Among_of_filter_map, Among-contains, Among_by_contains, exact_texts, WritableText, IsWritable, string_text, Prefix, Prefixes, prefix_of, names_rise, iris_of, same_prefix, those_among, in_byte_order, prefixes_text, iris_of_predicate, IsContext, proper_triple, NestedTurtle, Type_of, By, Apart, names_apart, one_of, exact_prefixes, prefix_fits, rising, reference_to, name_in, names_of_verb, piece_names, prefixes_named, names_used, statements, nested, piece_text, all_pieces}
-use Rattle.rx_turtle.proofs.Common.{AreRows, marked_all, unmarked, chosen, Shown, Fixed, IriOrLabel, Verb, Quoted, tokens_seen, words_text, piece_of, pieces_of, shown_text, shown_texts, iris_of_shown, WritableShown, list_of, shapes_of, IsSource, AreTokens}
+use Rattle.rx_notation.proofs.Common.{◌≡◌, ◌∙◌, ℕ, Bool, true, false, cond, nat_eq, List, [], ◌∷◌, ◌++◌, map, filter_map, flat_map, length, bytes_eq, Option, Some, None, refl, sym, ap, ap₂, subst, codes, if◌then◌else◌, chars-encodes, Chars, Among, contains, distinct, Plain, Tagged, Typed, Iri, Blank, Literal, Triple, same_triple, spo, rdf_type, Among_map, Among_of_map, Among_of_filter_map, Among-contains, Among_by_contains, exact_texts, WritableText, IsWritable, string_text, Prefix, Prefixes, prefix_of, names_rise, iris_of, same_prefix, those_among, in_byte_order, prefixes_text, iris_of_predicate, IsContext, proper_triple, NestedTurtle, Type_of, By, Apart, names_apart, one_of, exact_prefixes, prefix_fits, rising, reference_to, prefix_named, names_of_verb, piece_names, prefixes_named, names_used, statements, nested, piece_text, all_pieces}
+use Rattle.rx_turtle.proofs.Common.{AreRows, marked_all, unmarked, chosen, Shown, Fixed, IriOrLabel, Verb, Quoted, tokens_seen, words_text, piece_of, pieces_of, shown_text, shown_texts, iris_of_shown, WritableShown, source_triples, shapes_of, IsSource, AreGraphTokens}
 use Rattle.std.specs.Str.{chars, encode_utf8_all}
 use Rattle.rx_terms.proofs.Bools.{same_truth, by_test}
 use Rattle.rx_pieces.proofs.Scalars.{joined, literally}
@@ -38,10 +38,10 @@ module _ (context : Prefixes) where
   abbrev names_by : List Chars → List Chars
   names_by iris = map name_of (filter_map (prefix_of context) iris)
 
-  reference_name : (iri : Chars) → name_in (reference_to context iri) ≡ names_by (iri ∷ [])
+  reference_name : (iri : Chars) → prefix_named (reference_to context iri) ≡ names_by (iri ∷ [])
   reference_name iri = go (prefix_of context iri) refl
     where
-      go : (o : Option Prefix) → prefix_of context iri ≡ o → name_in (reference_to context iri) ≡ names_by (iri ∷ [])
+      go : (o : Option Prefix) → prefix_of context iri ≡ o → prefix_named (reference_to context iri) ≡ names_by (iri ∷ [])
       go None e = rw e refl
       go (Some p) e = rw e refl
 
@@ -106,21 +106,21 @@ words_writable : (words : Words) → WritableText (words_text words)
 words_writable fixed.Space = literally (codes " ") refl
 words_writable words = literally (words_text words) refl
 
-module _ (context : Prefixes) (source : Source) (tokens : List Token) (are : AreTokens source tokens) where
+module _ (context : Prefixes) (source : Source) (tokens : List Token) (are : AreGraphTokens source tokens) where
   abbrev those : List Shown
   those = tokens_seen tokens
 
-  names_there : names_used (statements context (list_of source) (shapes_of source)) ≡ names_by context (iris_of_tokens tokens)
+  names_there : names_used (statements context (source_triples source) (shapes_of source)) ≡ names_by context (iris_of_tokens tokens)
   names_there = ap (flat_map piece_names) (sym (are.each context)) ∙ names_are context those
 
-  text_there : shown_texts context those ≡ flat_map piece_text (all_pieces (statements context (list_of source) (shapes_of source)))
+  text_there : shown_texts context those ≡ flat_map piece_text (all_pieces (statements context (source_triples source) (shapes_of source)))
   text_there = texts_are context those ∙ ap (flat_map piece_text) (are.each context)
 
-  named_is : prefixes_text (prefixes_named context (names_by context (iris_of_tokens tokens))) ++ shown_texts context those ≡ nested context (list_of source) (shapes_of source)
+  named_is : prefixes_text (prefixes_named context (names_by context (iris_of_tokens tokens))) ++ shown_texts context those ≡ nested context (source_triples source) (shapes_of source)
   named_is = ap₂ (λ (n : List Chars) (z : Chars). prefixes_text (prefixes_named context n) ++ z) (sym names_there) text_there
 
   pub nested_is : (marks : List Bool) → names_rise context ≡ true → marks ≡ marked_all context (unmarked context) (iris_of_tokens tokens)
-      → prefixes_text (chosen marks context) ++ shown_texts context those ≡ nested context (list_of source) (shapes_of source)
+      → prefixes_text (chosen marks context) ++ shown_texts context those ≡ nested context (source_triples source) (shapes_of source)
   nested_is marks rise marked =
       ap (λ m. prefixes_text m ++ shown_texts context those) (ap (λ m. chosen m context) marked ∙ chosen_named context rise (iris_of_tokens tokens)) ∙ named_is
 
@@ -134,15 +134,15 @@ module _ (context : Prefixes) (source : Source) (tokens : List Token) (are : Are
     shown_writable (Verb (Blank number)) w = resource_writable context rows (Blank number) w
     shown_writable (Quoted text kind) w = object_writable context rows (Literal text kind) w
 
-    nested_writable : WritableText (nested context (list_of source) (shapes_of source))
+    nested_writable : WritableText (nested context (source_triples source) (shapes_of source))
     nested_writable =
         subst WritableText named_is
         (joined (prefixes_writable context rows (prefixes_named context (names_by context (iris_of_tokens tokens))) (λ p m. rows.each p (of_named context (names_by context (iris_of_tokens tokens)) p m).0))
         (all_writable (shown_text context) those (λ s m. shown_writable s (writable.each s m))))
 
-    pub text_denotes : names_rise context ≡ true → IsSource source → IsWritable (list_of source) → distinct (same_triple nat_eq) (list_of source) ≡ list_of source
-        → NestedTurtle (chars (encode_utf8_all (nested context (list_of source) (shapes_of source)))) (map proper_triple (list_of source))
+    pub text_denotes : names_rise context ≡ true → IsSource source → IsWritable (source_triples source) → distinct (same_triple nat_eq) (source_triples source) ≡ source_triples source
+        → NestedTurtle (chars (encode_utf8_all (nested context (source_triples source) (shapes_of source)))) (map proper_triple (source_triples source))
     text_denotes rise is w once =
         let fit : IsContext context = record { iris = λ p m. (rows.each p m).iri.is_iri; once = rising.once context rise } in
-        subst (λ (z : Chars). NestedTurtle z (map proper_triple (list_of source))) (sym (chars-encodes (nested context (list_of source) (shapes_of source)) nested_writable.scalars))
-        (nested_denotes context (list_of source) (shapes_of source) fit w once (have_shapes source is))
+        subst (λ (z : Chars). NestedTurtle z (map proper_triple (source_triples source))) (sym (chars-encodes (nested context (source_triples source) (shapes_of source)) nested_writable.scalars))
+        (nested_denotes context (source_triples source) (shapes_of source) fit w once (have_shapes source is))

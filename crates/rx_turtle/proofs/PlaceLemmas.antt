@@ -1,29 +1,29 @@
 -- The index of the prefixes by IRI.
-use Rattle.rx_turtle.proofs.Common.{option_or, list_all, encodes-chars, encodes-append, IsIri, Chars, begins_with, get_or-take, length-take-le, exact_texts, exact_numbers, Among, false_unless, text_of, iri_of, Prefix, Prefixes, is_before, is_name_char, is_prefix_name, prefix_of, names_rise, prefix_fits, front_and_rest, begins_local, stands_for, place_from, place_at, place_below, place_of, IsShort, IsRow, AreRows}
+use Rattle.rx_turtle.proofs.Common.{option_or, list_all, encodes-chars, encodes-append, IsIri, Chars, begins_with, get_or-take, length-take-le, exact_texts, exact_numbers, Among, false_unless, text_of, iri_of, Prefix, Prefixes, is_byte_less, is_name_char, is_prefix_name, prefix_of, names_rise, prefix_fits, front_and_rest, begins_local, stands_for, place_from, place_at, place_below, prefix_place, IsPrefixedName, IsRow, AreRows}
 use Rattle.rx_model.proofs.Common.{pointwise, by_test}
 use Rattle.std.proofs.Common.{◌≡◌, ◌∙◌, ℕ, zero, suc, ◌+◌, ◌-◌, ◌<◌, ◌≤◌, Bool, true, false, cond, nat_eq, List, [], ◌∷◌, ◌++◌, length, length-append, take, inl, inr, drop, get_or, slice_get, Option, Some, None, refl, sym, ap, subst, true≢false, arith, ◌&&◌, take_all, drop_at, if◌then◌else◌}
 use Rattle.std.specs.Str.{chars, IsUtf8, encode_utf8_all}
 use Rattle.rx_names.specs.Tables.{rise}
 use Rattle.rx_turtle.specs.declared.places.Places.{Places}
-use Rattle.rx_turtle.specs.Slots.{told, Tells}
-use Rattle.rx_turtle.specs.Places.{found_in, Knows, PutsBytes, Puts, Finds}
+use Rattle.rx_turtle.specs.Slots.{told_place, SlotsTell}
+use Rattle.rx_turtle.specs.Places.{indexed_place, Knows, PutsBytes, PutsPrefix, Finds}
 use Rattle.rx_turtle.proofs.GroupLemmas.{front_at}
 use Rattle.rx_turtle.proofs.SlotLemmas.{so_also}
 
 pub rises : (context : Prefixes) → names_rise context ≡ rise context
 rises [] = refl
-rises (row ∷ rows) = ap (λ b. list_all (λ (later : Prefix). is_before row.0 later.0) rows && b) (rises rows)
+rises (row ∷ rows) = ap (λ b. list_all (λ (later : Prefix). is_byte_less row.0 later.0) rows && b) (rises rows)
 
 -- ---- one place more
 
 -- what is kept beside the places
-module _ (iri : List ℕ) (place : ℕ) (old new : Places) (each : (bytes : List ℕ) → found_in new bytes ≡ (if pointwise nat_eq iri bytes then Some place else found_in old bytes)) where
+module _ (iri : List ℕ) (place : ℕ) (old new : Places) (each : (bytes : List ℕ) → indexed_place new bytes ≡ (if pointwise nat_eq iri bytes then Some place else indexed_place old bytes)) where
   either : (b : Bool) → cond b true true ≡ true
   either true = refl
   either false = refl
 
   lengths_known : ((n : ℕ) → get_or new.lengths n false ≡ cond (nat_eq (length iri) n) true (get_or old.lengths n false)) → Knows old
-      → (bytes : List ℕ) (p : ℕ) → found_in new bytes ≡ Some p → get_or new.lengths (length bytes) false ≡ true
+      → (bytes : List ℕ) (p : ℕ) → indexed_place new bytes ≡ Some p → get_or new.lengths (length bytes) false ≡ true
   lengths_known sizes k bytes p e = by_test (pointwise nat_eq iri bytes)
       (λ t. here (length bytes) (ap length (sym ((exact_texts iri bytes).0 t))))
       (λ t. kept (length bytes) (k.length_of bytes p (rw t at (sym (each bytes) ∙ e))))
@@ -38,7 +38,7 @@ module _ (iri : List ℕ) (place : ℕ) (old new : Places) (each : (bytes : List
   ends_plain places bytes = get_or places.plain (get_or bytes (length bytes - 1) 0) false
 
   ends_known : (0 < length iri → ends_plain new iri ≡ false) → ((byte : ℕ) → get_or new.plain byte false ≡ true → get_or old.plain byte false ≡ true) → Knows old
-      → (bytes : List ℕ) (p : ℕ) → found_in new bytes ≡ Some p → 0 < length bytes → ends_plain new bytes ≡ false
+      → (bytes : List ℕ) (p : ℕ) → indexed_place new bytes ≡ Some p → 0 < length bytes → ends_plain new bytes ≡ false
   ends_known here kept k bytes p e some = by_test (pointwise nat_eq iri bytes)
       (λ t.
       let same : iri ≡ bytes = (exact_texts iri bytes).0 t in
@@ -46,7 +46,7 @@ module _ (iri : List ℕ) (place : ℕ) (old new : Places) (each : (bytes : List
       (λ t. false_unless (ends_plain new bytes) (λ q. true≢false (sym (kept (get_or bytes (length bytes - 1) 0) q) ∙ k.ends bytes p (rw t at (sym (each bytes) ∙ e)) some)))
 
   pub put_bytes : ((n : ℕ) → get_or new.lengths n false ≡ cond (nat_eq (length iri) n) true (get_or old.lengths n false))
-      → ((found : List ℕ → Option ℕ) → Tells old.slots found → Tells new.slots (λ bytes. if pointwise nat_eq iri bytes then Some place else found bytes))
+      → ((found : List ℕ → Option ℕ) → SlotsTell old.slots found → SlotsTell new.slots (λ bytes. if pointwise nat_eq iri bytes then Some place else found bytes))
       → (0 < length iri → get_or new.plain (get_or iri (length iri - 1) 0) false ≡ false)
       → ((byte : ℕ) → get_or new.plain byte false ≡ true → get_or old.plain byte false ≡ true)
       → PutsBytes iri place old new
@@ -54,21 +54,21 @@ module _ (iri : List ℕ) (place : ℕ) (old new : Places) (each : (bytes : List
     each = each;
     known = λ k. record {
       length_of = lengths_known sizes k;
-      told = record { each = λ bytes. so_also (told new.slots bytes) (if pointwise nat_eq iri bytes then Some place else found_in old bytes) (found_in new bytes) (sym (each bytes)) ((slots (found_in old) k.told).each bytes) };
+      told = record { each = λ bytes. so_also (told_place new.slots bytes) (if pointwise nat_eq iri bytes then Some place else indexed_place old bytes) (indexed_place new bytes) (sym (each bytes)) ((slots (indexed_place old) k.told).each bytes) };
       ends = ends_known here kept k;
       names = λ byte h. k.names byte (kept byte h);
     };
   }
 
-pub put_named : (name : Chars) (bytes iri : List ℕ) (place : ℕ) (old new : Places) → is_prefix_name name ≡ true → IsUtf8 iri → bytes ≡ iri → PutsBytes bytes place old new → Puts (name, chars iri) place old new
-put_named name bytes iri place old new named utf8 same h = record { each = λ other. h.each other ∙ ap (λ b. if b then Some place else found_in old other) (sym (is other)); known = h.known }
+pub put_named : (name : Chars) (bytes iri : List ℕ) (place : ℕ) (old new : Places) → is_prefix_name name ≡ true → IsUtf8 iri → bytes ≡ iri → PutsBytes bytes place old new → PutsPrefix (name, chars iri) place old new
+put_named name bytes iri place old new named utf8 same h = record { each = λ other. h.each other ∙ ap (λ b. if b then Some place else indexed_place old other) (sym (is other)); known = h.known }
   where
     is : (other : List ℕ) → stands_for other (name, chars iri) ≡ pointwise nat_eq bytes other
     is other = rw named (ap (λ z. pointwise nat_eq z other) (encodes-chars iri utf8 ∙ sym same))
 
 -- ---- all places
 
-pub finds_one_more : (context : Prefixes) (n i : ℕ) (row : Prefix) (old new : Places) → n ≡ suc i → slice_get context i ≡ Some row → Puts row i old new → Finds n (drop n context) old → Finds i (drop i context) new
+pub finds_one_more : (context : Prefixes) (n i : ℕ) (row : Prefix) (old new : Places) → n ≡ suc i → slice_get context i ≡ Some row → PutsPrefix row i old new → Finds n (drop n context) old → Finds i (drop i context) new
 finds_one_more context n i row old new up at put h = record {
   each = λ bytes.
       put.each bytes ∙ ap (λ o. if stands_for bytes row then Some i else o) (h.each bytes ∙ ap (λ m. place_from m (drop m context) bytes) up)
@@ -116,10 +116,10 @@ neither : (b : Bool) → cond {A = Option ℕ} b None None ≡ None
 neither true = refl
 neither false = refl
 
-nothing_at : (context : Prefixes) (places : Places) → Finds 0 context places → (bytes : List ℕ) (end : ℕ) → ((p : ℕ) → found_in places (take end bytes) ≡ Some p → ⊥) → place_at context bytes end ≡ None
-nothing_at context places h bytes end never = ap (λ (o : Option ℕ). if begins_local (get_or bytes end 0) then o else None) (sym (h.each (take end bytes)) ∙ nothing (found_in places (take end bytes)) refl) ∙ neither (begins_local (get_or bytes end 0))
+nothing_at : (context : Prefixes) (places : Places) → Finds 0 context places → (bytes : List ℕ) (end : ℕ) → ((p : ℕ) → indexed_place places (take end bytes) ≡ Some p → ⊥) → place_at context bytes end ≡ None
+nothing_at context places h bytes end never = ap (λ (o : Option ℕ). if begins_local (get_or bytes end 0) then o else None) (sym (h.each (take end bytes)) ∙ nothing (indexed_place places (take end bytes)) refl) ∙ neither (begins_local (get_or bytes end 0))
   where
-    nothing : (o : Option ℕ) → found_in places (take end bytes) ≡ o → found_in places (take end bytes) ≡ None
+    nothing : (o : Option ℕ) → indexed_place places (take end bytes) ≡ o → indexed_place places (take end bytes) ≡ None
     nothing None e = e
     nothing (Some p) e = absurd (never p e)
 
@@ -152,7 +152,7 @@ none_below bytes (suc n) = go (is_name_char (get_or bytes n 0)) (begins_local (g
     go false c ih = refl
 
 -- a context of no prefix
-pub no_place : (context : Prefixes) (iri : Chars) → length context ≡ 0 → None ≡ place_of context iri
+pub no_place : (context : Prefixes) (iri : Chars) → length context ≡ 0 → None ≡ prefix_place context iri
 no_place [] iri h = sym (none_below (encode_utf8_all iri) (length (encode_utf8_all iri)))
 no_place (prefix ∷ context) iri h = absurd (omega (arith, h))
 
@@ -190,5 +190,5 @@ module _ (context : Prefixes) (iri : Chars) (place : ℕ) (name full : Chars) (a
   pub front_fits : begins_with full iri ≡ true
   front_fits = (prefix_fits context iri (name, full) taken).begins
 
-  pub is_short : (local : List ℕ) → local ≡ encode_utf8_all (drop (length full) iri) → IsShort context iri name local
+  pub is_short : (local : List ℕ) → local ≡ encode_utf8_all (drop (length full) iri) → IsPrefixedName context iri name local
   is_short local e = record { prefix = (name, full); found = taken; named = refl; rest = e }

@@ -1,5 +1,5 @@
 -- All characters of a text are Unicode scalar values.
-use Rattle.rx_turtle.proofs.Common.{◌≡◌, ℕ, zero, suc, Bool, true, false, List, [], ◌∷◌, ◌++◌, map, flat_map, length, drop, bytes_eq, Option, Some, None, refl, subst, inl, inr, codes, if◌then◌else◌, all_scalars, and_parts, Chars, Among, Kind, Plain, Tagged, Typed, Node, Iri, Blank, Term, Resource, Literal, Triple, spo, rdf_type, WritableText, WritableIri, WritableNode, WritableKind, WritableTerm, WritableTriple, IsWritable, Prefix, Prefixes, prefix_of, short_iri, resource_text, verb_text, suffix_text, object_text, separated, predicate_text, statement_text, prefixes_used, prefix_text, prefixes_text, turtle, subjects, predicates_of, objects_of, prefix_fits, used_of, subject_says, predicate_says, object_says, IsRow, AreRows}
+use Rattle.rx_turtle.proofs.Common.{◌≡◌, ℕ, zero, suc, Bool, true, false, List, [], ◌∷◌, ◌++◌, map, flat_map, length, drop, bytes_eq, Option, Some, None, refl, subst, inl, inr, codes, if◌then◌else◌, all_scalars, and_parts, Chars, Among, Kind, Plain, Tagged, Typed, Node, Iri, Blank, Term, Resource, Literal, Triple, spo, rdf_type, WritableText, WritableIri, WritableNode, WritableKind, WritableTerm, WritableTriple, IsWritable, Prefix, Prefixes, prefix_of, short_iri, resource_text, short_predicate, kind_suffix, object_text, separated, predicate_text, statement_text, prefixes_used, prefix_text, prefixes_text, turtle, subjects, predicates_of, objects_of, prefix_fits, used_of, subject_says, predicate_says, object_says, IsRow, AreRows}
 use Rattle.rx_model.proofs.Common.{by_test, Among_of_map}
 use Rattle.rx_pieces.proofs.Scalars.{joined, literally, string_writable, iri_writable, blank_writable}
 
@@ -31,10 +31,10 @@ module _ (context : Prefixes) (rows : AreRows context) where
   resource_writable (Iri iri) w = short_writable iri w
   resource_writable (Blank number) w = blank_writable number w
 
-  pub verb_writable : (predicate : Chars) → WritableIri predicate → WritableText (verb_text context predicate)
+  pub verb_writable : (predicate : Chars) → WritableIri predicate → WritableText (short_predicate context predicate)
   verb_writable predicate w = by_test (bytes_eq predicate rdf_type) (λ e. rw e (literally (codes "a") refl)) (λ e. rw e (short_writable predicate w))
 
-  suffix_writable : (kind : Kind) → WritableKind kind → WritableText (suffix_text context kind)
+  suffix_writable : (kind : Kind) → WritableKind kind → WritableText (kind_suffix context kind)
   suffix_writable Plain w = literally [] refl
   suffix_writable (Tagged tag) w = joined (literally (codes "@") refl) w.text
   suffix_writable (Typed datatype) w = joined (literally (codes "^^") refl) (short_writable datatype w)

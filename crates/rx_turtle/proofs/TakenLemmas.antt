@@ -1,5 +1,5 @@
 -- Triples that are put into groups one after another.
-use Rattle.rx_turtle.proofs.Common.{◌≡◌, ◌∙◌, ℕ, zero, suc, ◌+◌, ◌<◌, ◌≤◌, Bool, true, false, nat_eq, List, [], ◌∷◌, ◌++◌, map, filter, length, take, slice_get, Option, Some, None, option_map, Bor, refl, sym, ap, ap₂, subst, true≢false, arith, ◌||◌, if◌then◌else◌, take_all, map-append, or_parts, contains, distinct, with_one, Among-contains, Among_by_contains, Among_of_distinct, Among_distinct, false_unless, Node, Triple, same_node, exact_nodes, exact_numbers, number_in, AreDistinct, same_nodes, Keyed, key_by, has_key, keys_by, keys_in, grouped, put_in, taken_at, taken_in}
+use Rattle.rx_turtle.proofs.Common.{◌≡◌, ◌∙◌, ℕ, zero, suc, ◌+◌, ◌<◌, ◌≤◌, Bool, true, false, nat_eq, List, [], ◌∷◌, ◌++◌, map, filter, length, take, slice_get, Option, Some, None, option_map, Bor, refl, sym, ap, ap₂, subst, true≢false, arith, ◌||◌, if◌then◌else◌, take_all, map-append, or_parts, contains, distinct, with_one, Among-contains, Among_by_contains, Among_of_distinct, Among_distinct, false_unless, Node, Triple, same_node, exact_nodes, exact_numbers, number_in, AreDistinct, same_nodes, Keyed, group_key, has_key, keys_by, group_keys, grouped, put_in, taken_at, taken_in}
 use Rattle.rx_model.proofs.Common.{filter-append, same_truth, by_test}
 use Rattle.rx_terms.specs.declared.triples.Triple.{Triple as CodeTriple}
 use Rattle.rx_graph.proofs.PatternLemmas.{none_there, number_node}
@@ -26,17 +26,17 @@ same_there keys k =
     (λ h. Among-contains same exact keys k (Among_of_distinct same keys k (Among_by_contains same exact (distinct same keys) k h)))
     (λ h. Among-contains same exact (distinct same keys) k (Among_distinct same exact keys k (Among_by_contains same exact keys k h)))
 
-pub none_with : (kind : By) (list : List (Triple ℕ)) (k : Node ℕ) → contains (same_node nat_eq) (map (key_by kind) list) k ≡ false → filter (has_key kind k) list ≡ []
+pub none_with : (kind : By) (list : List (Triple ℕ)) (k : Node ℕ) → contains (same_node nat_eq) (map (group_key kind) list) k ≡ false → filter (has_key kind k) list ≡ []
 none_with kind [] k h = refl
 none_with kind (t ∷ list) k h =
-    let parts = or_parts (has_key kind k t) (contains (same_node nat_eq) (map (key_by kind) list) k) h in
+    let parts = or_parts (has_key kind k t) (contains (same_node nat_eq) (map (group_key kind) list) k) h in
     let none : has_key kind k t ≡ false = parts.0 in
     rw none (none_with kind list k parts.1)
 
 pub there : (keys : List (Node ℕ)) (s : Node ℕ) (n : ℕ) → number_in keys s ≡ Some n → contains (same_node nat_eq) keys s ≡ true
 there keys s n h = Among-contains (same_node nat_eq) same_nodes keys s (among_get keys n s (number_node keys s n h))
 
-pub keys_of_pairs : (f : Node ℕ → List (Triple ℕ)) (kind : By) (keys : List (Node ℕ)) → keys_in (paired kind f keys) ≡ keys
+pub keys_of_pairs : (f : Node ℕ → List (Triple ℕ)) (kind : By) (keys : List (Node ℕ)) → group_keys (paired kind f keys) ≡ keys
 keys_of_pairs f kind [] = refl
 keys_of_pairs f kind (x ∷ keys) = ap (λ z. x ∷ z) (keys_of_pairs f kind keys)
 
@@ -48,7 +48,7 @@ module _ (kind : By) where
     keys = keys_by kind list
 
     abbrev key : Node ℕ
-    key = key_by kind t
+    key = group_key kind t
 
     abbrev rows : Node ℕ → List (Triple ℕ)
     rows k = filter (has_key kind k) list
@@ -57,7 +57,7 @@ module _ (kind : By) where
     put : (n : ℕ) → number_in keys key ≡ Some n → put_in (grouped kind list) n t ≡ grouped kind (list ++ t ∷ [])
     put n h =
         let same : keys_by kind (list ++ t ∷ []) ≡ keys = keys_more kind list t ∙ ap (λ b. if b then keys else keys ++ key ∷ []) (there keys key n h) in
-        one_put kind rows t keys n (distinct_keys (map (key_by kind) list)) h ∙ sym (last_in kind list t keys) ∙ ap (rows_by kind (list ++ t ∷ [])) (sym same)
+        one_put kind rows t keys n (distinct_keys (map (group_key kind) list)) h ∙ sym (last_in kind list t keys) ∙ ap (rows_by kind (list ++ t ∷ [])) (sym same)
 
     -- it isn't
     begun : number_in keys key ≡ None → grouped kind list ++ (key, t ∷ []) ∷ [] ≡ grouped kind (list ++ t ∷ [])
@@ -65,7 +65,7 @@ module _ (kind : By) where
         let new : contains (same_node nat_eq) keys key ≡ false = none_there keys key h in
         let more : keys_by kind (list ++ t ∷ []) ≡ keys ++ key ∷ [] = keys_more kind list t ∙ ap (λ b. if b then keys else keys ++ key ∷ []) new in
         let own : has_key kind key t ≡ true = same_self key in
-        let none : rows key ≡ [] = none_with kind list key (sym (same_there (map (key_by kind) list) key) ∙ new) in
+        let none : rows key ≡ [] = none_with kind list key (sym (same_there (map (group_key kind) list) key) ∙ new) in
         let row : filter (has_key kind key) (list ++ t ∷ []) ≡ t ∷ [] = filter-append (has_key kind key) list (t ∷ []) ∙ rw (none, own) refl in
         let front : rows_by kind (list ++ t ∷ []) keys ≡ grouped kind list = last_in kind list t keys ∙ others_stay kind rows t keys new in
         sym
@@ -88,8 +88,8 @@ module _ (kind : By) where
   taken_end list i groups past h = h ∙ ap (λ z. grouped kind (map lent_seen z)) (take_all i list past)
 
   -- no two groups have one key
-  pub taken_once : (list : List (Triple ℕ)) (groups : List Keyed) → groups ≡ grouped kind list → AreDistinct (keys_in groups)
-  taken_once list groups h = subst AreDistinct (sym (ap keys_in h ∙ keys_of_pairs (λ key. filter (has_key kind key) list) kind (keys_by kind list))) (distinct_keys (map (key_by kind) list))
+  pub taken_once : (list : List (Triple ℕ)) (groups : List Keyed) → groups ≡ grouped kind list → AreDistinct (group_keys groups)
+  taken_once list groups h = subst AreDistinct (sym (ap group_keys h ∙ keys_of_pairs (λ key. filter (has_key kind key) list) kind (keys_by kind list))) (distinct_keys (map (group_key kind) list))
 
 -- the triple in a group of its own, which is the last
 pub put_last : (groups : List Keyed) (key : Node ℕ) (t : Triple ℕ) (n : ℕ) → n ≡ length groups → put_in (groups ++ (key, []) ∷ []) n t ≡ groups ++ (key, t ∷ []) ∷ []
@@ -99,23 +99,23 @@ put_last groups key t n e = absurd (omega (arith, e))
 
 -- ---- the keys of groups
 
-pub keys_put : (groups : List Keyed) (n : ℕ) (t : Triple ℕ) → keys_in groups ≡ keys_in (put_in groups n t)
+pub keys_put : (groups : List Keyed) (n : ℕ) (t : Triple ℕ) → group_keys groups ≡ group_keys (put_in groups n t)
 keys_put [] n t = refl
 keys_put (g ∷ groups) zero t = refl
 keys_put (g ∷ groups) (suc n) t = ap (λ z. g.0 ∷ z) (keys_put groups n t)
 
-pub keys_begun : (groups : List Keyed) (keys : List (Node ℕ)) (key : Node ℕ) (t : Triple ℕ) → keys ≡ keys_in groups → number_in keys key ≡ None → with_one (same_node nat_eq) keys key ≡ keys_in (groups ++ (key, t ∷ []) ∷ [])
+pub keys_begun : (groups : List Keyed) (keys : List (Node ℕ)) (key : Node ℕ) (t : Triple ℕ) → keys ≡ group_keys groups → number_in keys key ≡ None → with_one (same_node nat_eq) keys key ≡ group_keys (groups ++ (key, t ∷ []) ∷ [])
 keys_begun groups keys key t are none =
     ap (λ b. if b then keys else keys ++ key ∷ []) (none_there keys key none) ∙ ap (λ z. z ++ key ∷ []) are ∙ sym (map-append (λ (group : Keyed). group.0) groups ((key, t ∷ []) ∷ []))
 
 -- a group at this place has the key: so the key is found there
-pub key_at : (groups : List Keyed) (n : ℕ) (key : Node ℕ) (has : Bool) → n < length groups → ((g : Keyed) → slice_get groups n ≡ Some g → has ≡ same_node nat_eq g.0 key) → has ≡ true → AreDistinct (keys_in groups)
-    → number_in (keys_in groups) key ≡ Some n
+pub key_at : (groups : List Keyed) (n : ℕ) (key : Node ℕ) (has : Bool) → n < length groups → ((g : Keyed) → slice_get groups n ≡ Some g → has ≡ same_node nat_eq g.0 key) → has ≡ true → AreDistinct (group_keys groups)
+    → number_in (group_keys groups) key ≡ Some n
 key_at [] n key has less tells is d = absurd (omega (arith, less))
 key_at (g ∷ groups) zero key has less tells is d = let same : same_node nat_eq g.0 key ≡ true = sym (tells g refl) ∙ is in rw same refl
 key_at (g ∷ groups) (suc n) key has less tells is d =
     let found = key_at groups n key has (omega (arith, less)) (λ h at. tells h at) is d.1 in
     by_test (same_node nat_eq g.0 key) (λ e.
     let same : g.0 ≡ key = (exact_nodes nat_eq exact_numbers g.0 key).0 e in
-    absurd (true≢false (sym (there (keys_in groups) key n found) ∙ ap (contains (same_node nat_eq) (keys_in groups)) (sym same) ∙ d.0)))
+    absurd (true≢false (sym (there (group_keys groups) key n found) ∙ ap (contains (same_node nat_eq) (group_keys groups)) (sym same) ∙ d.0)))
     (λ e. rw e (ap (option_map suc) found))

@@ -1,5 +1,5 @@
 -- The text of a plan is that of the layout, and what it denotes.
-use Rattle.rx_turtle.proofs.Common.{◌≡◌, ◌∙◌, ℕ, Bool, true, List, [], ◌∷◌, ◌++◌, map, filter, flat_map, refl, sym, ap, ap₂, subst, codes, chars-encodes, Chars, Node, Iri, Triple, Prefixes, names_rise, resource_text, verb_text, object_text, separated, predicate_text, statement_text, prefixes_text, turtle, has_predicate, subjects, about, predicates_of, IsWritable, proper_triple, rising, Keyed, has_key, keys_by, grouped, Said, said_by, plan, group_text, said_text, plan_text, AreRows, used_marks, chosen, append_assoc, chars, local_name, short_iri, Delivery, AddsBytes, Adds, bytes_by, adds_then, adds_by, literal, IsShort}
+use Rattle.rx_turtle.proofs.Common.{◌≡◌, ◌∙◌, ℕ, Bool, true, List, [], ◌∷◌, ◌++◌, map, filter, flat_map, refl, sym, ap, ap₂, subst, codes, chars-encodes, Chars, Node, Iri, Triple, Prefixes, names_rise, resource_text, short_predicate, object_text, separated, predicate_text, statement_text, prefixes_text, turtle, has_predicate, subjects, about, predicates_of, IsWritable, proper_triple, rising, Keyed, has_key, keys_by, grouped, Said, said_by, plan, group_text, said_text, plan_text, AreRows, used_marks, chosen, append_assoc, chars, local_name, short_iri, Delivery, AddsBytes, Adds, bytes_by, adds_then, adds_by, literal, IsPrefixedName}
 use Rattle.rx_notation.proofs.Common.{IsContext, Turtle}
 use Rattle.std.specs.Str.{encode_utf8_all}
 use Rattle.rx_notation.proofs.LayoutMeaning.{layout_denotes}
@@ -19,7 +19,7 @@ texts_twice f g (x ∷ list) = ap (λ z. f (g x) ++ z) (texts_twice f g list)
 
 module _ (context : Prefixes) (list : List (Triple ℕ)) where
   one_group : (s : Node ℕ) (p : Chars) → group_text context (Iri p, filter (has_key by.Predicate (Iri p)) (about list s)) ≡ predicate_text context list s p
-  one_group s p = ap (λ z. verb_text context p ++ (codes " " ++ separated (codes " , ") z)) (sym (map_twice (object_text context) (λ (t : Triple ℕ). t.object) (filter (has_predicate p) (about list s))))
+  one_group s p = ap (λ z. short_predicate context p ++ (codes " " ++ separated (codes " , ") z)) (sym (map_twice (object_text context) (λ (t : Triple ℕ). t.object) (filter (has_predicate p) (about list s))))
 
   groups_are : (s : Node ℕ) → map (group_text context) (grouped by.Predicate (about list s)) ≡ map (predicate_text context list s) (predicates_of list s)
   groups_are s =
@@ -48,7 +48,7 @@ text_denotes context list rise rows w =
     subst (λ (z : Chars). Turtle z (map proper_triple list)) (sym (chars-encodes (turtle context list) (turtle_writable context rows list w).scalars)) (layout_denotes.denotes context list fit w)
 
 -- terms added to a text
-pub short_added : {a b c d : Delivery} (context : Prefixes) (iri name : Chars) (local : List ℕ) → IsShort context iri name local → Adds a b name → Adds b c (chars (codes ":")) → AddsBytes c d local → Adds a d (short_iri context iri)
+pub short_added : {a b c d : Delivery} (context : Prefixes) (iri name : Chars) (local : List ℕ) → IsPrefixedName context iri name local → Adds a b name → Adds b c (chars (codes ":")) → AddsBytes c d local → Adds a d (short_iri context iri)
 short_added {a} {b} {c} {d} context iri name local s first colon last =
     let behind : Adds c d (local_name s.prefix iri) = record { bytes = bytes_by s.rest last } in
     rw s.found (adds_then (adds_by s.named first) (adds_then (literal (codes ":") refl colon) behind))

@@ -1,9 +1,9 @@
 -- What is due comes to the pieces of nested Turtle, turn by turn.
-use Rattle.rx_notation.proofs.Common.{◌≡◌, ◌∙◌, ℕ, Bool, true, false, cond, List, [], ◌∷◌, ◌++◌, map, filter, length, codes, bytes_eq, Option, Some, None, refl, sym, ap, ap₂, subst, inl, inr, Chars, Among, Node, Iri, Blank, Term, Resource, Literal, Triple, set_of, rdf_first, rdf_rest, rdf_nil, Cell, IsShape, HaveShapes, Shape, about, has_predicate, predicates_of, objects_of, first_of, object_at, CellOf, cell_of, predicate_says, Prefixes, reference_to, verb_of, subject_of, objects_after, some_objects, predicates_after, bracketed, some_predicates, one_object, items_by, node_by, object_by, written, statement_of, Piece, words, subject, verb, inside_gap, line_gap, pieces, statement_pieces}
+use Rattle.rx_notation.proofs.Common.{◌≡◌, ◌∙◌, ℕ, Bool, true, false, cond, List, [], ◌∷◌, ◌++◌, map, filter, length, codes, bytes_eq, Option, Some, None, refl, sym, ap, ap₂, subst, inl, inr, Chars, Among, Node, Iri, Blank, Term, Resource, Literal, Triple, set_of, rdf_first, rdf_rest, rdf_nil, Cell, IsShape, HaveShapes, Shape, about, has_predicate, predicates_of, objects_of, first_member, object_at, CellOf, cell_of, predicate_says, Prefixes, reference_to, verb_of, subject_of, objects_after, some_objects, predicates_after, bracketed, some_predicates, one_object, items_by, node_by, object_by, written, statement_of, Piece, words, subject, verb, inside_gap, line_gap, pieces, statement_pieces}
 use Rattle.rx_turtle.proofs.Common.{Keyed, has_key, Shown, Fixed, IriOrLabel, words_text, piece_of, Due, Say, Object, After, behind, parted, object_due, objects_due, line_due, lines_due, bracket_due, item_due, rest_due, iri_due, statement_due, cell_due, node_due, term_due, opened, AreCells, one_due, due_pieces}
 use Rattle.rx_terms.proofs.Bools.{by_test}
 use Rattle.rx_shapes.specs.declared.shapes.Shape.TheVariants as shape
-use Rattle.rx_notation.specs.Syntax.{Named, Object as An_object, Items, Part, IriOrLabel as Noun, Nil}
+use Rattle.rx_notation.specs.Syntax.{Named, Object as An_object, Items, Part, Nil}
 use Rattle.rx_notation.specs.Nesting as nesting
 use Rattle.rx_notation.proofs.CellParts.{rests}
 use Rattle.rx_notation.proofs.Unfolded.{node_unfolds, cell_unfolds}
@@ -94,12 +94,12 @@ module _ (context : Prefixes) (list : List (Triple ℕ)) (shapes : ℕ → Shape
       ∙ ap (λ (z : List Keyed). comes (lines_due fixed.LineGap z) (words (codes " .\n") ∷ rest)) (groups_are node)
       ∙ sym (said_come (about_of node) (Among (predicates_of list node)) (λ q n. predicate_says list node q n) (predicates_of list node) p m (λ q n. n) (words (codes " .\n") ∷ rest)))
 
-  items_come : (firsts rests : List (Term ℕ)) (rest : List Piece) → pieces inside_gap (items_by cell (one_object part_of firsts) rests) rest ≡ comes (item_due (first_of firsts) ++ rest_due (first_of rests)) rest
+  items_come : (firsts rests : List (Term ℕ)) (rest : List Piece) → pieces inside_gap (items_by cell (one_object part_of firsts) rests) rest ≡ comes (item_due (first_member firsts) ++ rest_due (first_member rests)) rest
   items_come [] (Resource (Blank number) ∷ more) rest = refl
   items_come (first ∷ others) (Resource (Blank number) ∷ more) rest = refl
   items_come _ _ rest = refl
 
-  cells_come : (number : ℕ) (rest : List Piece) → pieces inside_gap (nesting.cells part_of cell list number) rest ≡ comes (cell_due list number) rest
+  cells_come : (number : ℕ) (rest : List Piece) → pieces inside_gap (nesting.cell_items part_of cell list number) rest ≡ comes (cell_due list number) rest
   cells_come number rest = items_come (objects_of list (Blank number) rdf_first) (objects_of list (Blank number) rdf_rest) rest
 
   node_comes : (s : Shape) (number : ℕ) (rest : List Piece) → pieces inside_gap (node_by context list shapes part_of cell s number) rest ≡ comes (node_due list s number) rest
@@ -142,7 +142,7 @@ module _ (list : List (Triple ℕ)) where
 
   rest_cells : (number : ℕ) → CellOf list number → AreCells list (rest_due (object_at list (Blank number) rdf_rest))
   rest_cells number c =
-      subst (λ (os : List (Term ℕ)). AreCells list (rest_due (first_of os))) (sym (rests list number c).1) (elim c.next [
+      subst (λ (os : List (Term ℕ)). AreCells list (rest_due (first_member os))) (sym (rests list number c).1) (elim c.next [
         | inl e ↦ subst (λ (z : Term ℕ). AreCells list (rest_due (Some z))) (sym e) tt
         | inr d ↦ subst (λ (z : Term ℕ). AreCells list (rest_due (Some z))) (sym d.1) (d.2, tt)
       ])

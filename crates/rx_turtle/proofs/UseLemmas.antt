@@ -1,5 +1,5 @@
 -- Which prefixes are used.
-use Rattle.rx_turtle.proofs.Common.{◌≡◌, ◌∙◌, ℕ, zero, suc, ◌+◌, ◌<◌, ◌≤◌, Bool, true, false, List, [], ◌∷◌, ◌++◌, map, filter, filter_map, flat_map, length, take, slice_get, slice_set, Option, Some, None, refl, sym, ap, ap₂, subst, inl, inr, arith, cond, ◌||◌, take_all, length-map, or_right, Chars, Among, contains, Triple, Among_cases, false_unless, Prefix, Prefixes, prefix_of, names_rise, iris_of, used, same_prefix, prefixes_used, Apart, names_apart, exact_prefixes, rising, place_of, IsPlace, marked, marked_all, unmarked, used_marks, chosen}
+use Rattle.rx_turtle.proofs.Common.{◌≡◌, ◌∙◌, ℕ, zero, suc, ◌+◌, ◌<◌, ◌≤◌, Bool, true, false, List, [], ◌∷◌, ◌++◌, map, filter, filter_map, flat_map, length, take, slice_get, slice_set, Option, Some, None, refl, sym, ap, ap₂, subst, inl, inr, arith, cond, ◌||◌, take_all, length-map, or_right, Chars, Among, contains, Triple, Among_cases, false_unless, Prefix, Prefixes, prefix_of, names_rise, iris_of, used, same_prefix, prefixes_used, Apart, names_apart, exact_prefixes, rising, prefix_place, IsPlace, marked, marked_all, unmarked, used_marks, chosen}
 use Rattle.rx_terms.proofs.Bools.{by_test}
 use Rattle.rx_shapes.proofs.RowLemmas.{among_get}
 use Rattle.rx_turtle.proofs.Finding.{place_is}
@@ -10,7 +10,7 @@ use Rattle.rx_turtle.proofs.LineLemmas.{flat_map_last}
 
 pub marked_both : (context : Prefixes) (marks : List Bool) (xs ys : List Chars) → marked_all context marks (xs ++ ys) ≡ marked_all context (marked_all context marks xs) ys
 marked_both context marks [] ys = refl
-marked_both context marks (x ∷ xs) ys = marked_both context (marked marks (place_of context x)) xs ys
+marked_both context marks (x ∷ xs) ys = marked_both context (marked marks (prefix_place context x)) xs ys
 
 -- the first of some things are looked at: the IRIs of each are marked, and each is fine
 module _ {A B : Type 0} (seen : A → B) (Fine : B → Type 0) where
@@ -94,7 +94,7 @@ module _ (context : Prefixes) (rise : names_rise context ≡ true) where
 
   all_marks : (iris : List Chars) (f : Prefix → Bool) → marked_all context (map f context) iris ≡ map (λ (p : Prefix). f p || contains same_prefix (said_by iris) p) context
   all_marks [] f = map_same f (λ (p : Prefix). f p || false) context (λ p m. or_false (f p))
-  all_marks (iri ∷ more) f = go (place_of context iri) (place_is context iri rise) (all_marks more)
+  all_marks (iri ∷ more) f = go (prefix_place context iri) (place_is context iri rise) (all_marks more)
     where
       go : (o : Option ℕ) → IsPlace context (prefix_of context iri) o → ((g : Prefix → Bool) → marked_all context (map g context) more ≡ map (λ (p : Prefix). g p || contains same_prefix (said_by more) p) context)
           → marked_all context (marked (map f context) o) more ≡ map (λ (p : Prefix). f p || contains same_prefix (said_by (iri ∷ more)) p) context

@@ -17,7 +17,7 @@ use Rattle.rx_turtle.specs.declared.tokens.Token.{Token}
 use Rattle.rx_turtle.specs.declared.tokens.Words.{Words}
 use Rattle.rx_turtle.specs.declared.tokens.Words.TheVariants as fixed
 use Rattle.rx_turtle.specs.declared.keys.By.TheVariants as by
-use Rattle.rx_turtle.specs.Groups.{Keyed, key_by, has_key}
+use Rattle.rx_turtle.specs.Groups.{Keyed, group_key, has_key}
 use Rattle.rx_turtle.specs.Said.{said_of}
 use Rattle.rx_turtle.specs.Tokens.{Shown, Fixed, IriOrLabel, Verb, Quoted, token_seen, tokens_seen, piece_of, pieces_of}
 
@@ -38,8 +38,8 @@ due_on [] = []
 due_on (t ∷ tasks) = due_on tasks ++ task_seen t ∷ []
 
 -- the token is the first of what is due, and all behind that was put before what was due so far
-abbrev pub Opens : List Due → List Due → List Due → Token → Type 0
-Opens due old new token = Say (token_seen token) ∷ new ≡ due ++ old
+abbrev pub BeginsDue : List Due → List Due → List Due → Token → Type 0
+BeginsDue due old new token = Say (token_seen token) ∷ new ≡ due ++ old
 
 -- ---- what is due of several things, with words between them
 
@@ -69,12 +69,12 @@ lines_due gap groups = parted line_due gap groups
 
 -- a predicate, before its first object
 abbrev pub verb_due : Triple ℕ → List Due
-verb_due t = Say (Verb (key_by by.Predicate t)) ∷ Say (Fixed fixed.Space) ∷ []
+verb_due t = Say (Verb (group_key by.Predicate t)) ∷ Say (Fixed fixed.Space) ∷ []
 
 -- a triple behind another
 abbrev pub behind_due : Words → Triple ℕ → Triple ℕ → List Due
 behind_due gap s t =
-    if has_key by.Predicate (key_by by.Predicate t) s then Say (Fixed fixed.Comma) ∷ Object t.object ∷ []
+    if has_key by.Predicate (group_key by.Predicate t) s then Say (Fixed fixed.Comma) ∷ Object t.object ∷ []
     else Say (Fixed gap) ∷ (verb_due t ++ Object t.object ∷ [])
 
 -- triples behind another
@@ -174,28 +174,28 @@ module _ (context : Prefixes) (list : List (Triple ℕ)) (shapes : ℕ → Shape
 
 -- ---- the graph that is written
 
-abbrev pub list_of : Source → List (Triple ℕ)
-list_of source = triples_seen source.graph.now
+abbrev pub source_triples : Source → List (Triple ℕ)
+source_triples source = triples_seen source.graph.now
 
 abbrev pub shapes_of : Source → ℕ → Shape
 shapes_of source = shape_in source.shapes.now
 
 abbrev pub IsSource : Source → Type 0
-IsSource source = AreShapes (list_of source) source.shapes.now
+IsSource source = AreShapes (source_triples source) source.shapes.now
 
 -- the new tokens are the old ones, and then those that were due
 pub record Comes (source : Source) (due : List Due) (old new : List Token) : Type 0 where
   pub each : (context : Prefixes) (rest : List Piece) → pieces_of context (tokens_seen new) ++ rest
-      ≡ pieces_of context (tokens_seen old) ++ due_pieces context (list_of source) (shapes_of source) due rest
+      ≡ pieces_of context (tokens_seen old) ++ due_pieces context (source_triples source) (shapes_of source) due rest
 
 -- the new tokens are the old ones, and then those of a subject's statement, where it has one
-pub record Says (source : Source) (subject : Node ℕ) (old new : List Token) : Type 0 where
+pub record AddsStatement (source : Source) (subject : Node ℕ) (old new : List Token) : Type 0 where
   pub each : (context : Prefixes) (rest : List Piece) → pieces_of context (tokens_seen new) ++ rest
-      ≡ pieces_of context (tokens_seen old) ++ one_said context (list_of source) (shapes_of source) (is_top (shapes_of source) subject) subject rest
+      ≡ pieces_of context (tokens_seen old) ++ one_said context (source_triples source) (shapes_of source) (is_top (shapes_of source) subject) subject rest
 
 -- these are the tokens of the graph's statements
-pub record AreTokens (source : Source) (tokens : List Token) : Type 0 where
-  pub each : (context : Prefixes) → pieces_of context (tokens_seen tokens) ≡ all_pieces (statements context (list_of source) (shapes_of source))
+pub record AreGraphTokens (source : Source) (tokens : List Token) : Type 0 where
+  pub each : (context : Prefixes) → pieces_of context (tokens_seen tokens) ≡ all_pieces (statements context (source_triples source) (shapes_of source))
 
 -- these are all of a subject's triples, and there are some
 pub record IsSubject (list : List (Triple ℕ)) (subject : Node ℕ) (triples : List (Triple ℕ)) : Type 0 where

@@ -3,7 +3,7 @@ use Rattle.std.specs.Prelude.{ℕ, nat_eq, Bool, false, List, [], ◌∷◌, map
 use Rattle.rx_model.specs.Common.{contains, Node, Triple, same_node}
 use Rattle.rx_turtle.specs.declared.keys.By.{By}
 use Rattle.rx_turtle.specs.declared.keys.By.TheVariants as by
-use Rattle.rx_turtle.specs.Groups.{Keyed, key_by, has_key, grouped}
+use Rattle.rx_turtle.specs.Groups.{Keyed, group_key, has_key, grouped}
 
 -- the triples of groups, one group behind another
 abbrev pub all_in : List Keyed → List (Triple ℕ)
@@ -11,10 +11,10 @@ all_in groups = flat_map (λ (group : Keyed). group.1) groups
 
 -- the triple before the first group, where both have one key; else in a group of its own
 abbrev pub put_before : By → Triple ℕ → List Keyed → List Keyed
-put_before kind t [] = (key_by kind t, t ∷ []) ∷ []
+put_before kind t [] = (group_key kind t, t ∷ []) ∷ []
 put_before kind t (group ∷ groups) =
-    if has_key kind group.0 t then (key_by kind t, t ∷ group.1) ∷ groups
-    else (key_by kind t, t ∷ []) ∷ group ∷ groups
+    if has_key kind group.0 t then (group_key kind t, t ∷ group.1) ∷ groups
+    else (group_key kind t, t ∷ []) ∷ group ∷ groups
 
 -- the list, cut where the key changes
 abbrev pub runs : By → List (Triple ℕ) → List Keyed
@@ -22,16 +22,16 @@ runs kind [] = []
 runs kind (t ∷ list) = put_before kind t (runs kind list)
 
 -- whether the first of them has the key
-abbrev pub starts : By → Node ℕ → List (Triple ℕ) → Bool
-starts kind key [] = false
-starts kind key (t ∷ list) = has_key kind key t
+abbrev pub starts_with_key : By → Node ℕ → List (Triple ℕ) → Bool
+starts_with_key kind key [] = false
+starts_with_key kind key (t ∷ list) = has_key kind key t
 
 -- the triples from here on that have the key of the first of them, where none before it has that key
 abbrev pub like_first : By → List (Triple ℕ) → List (Triple ℕ) → List (Triple ℕ)
 like_first kind before [] = []
 like_first kind before (t ∷ more) =
-    if contains (same_node nat_eq) (map (key_by kind) before) (key_by kind t) then []
-    else filter (has_key kind (key_by kind t)) (t ∷ more)
+    if contains (same_node nat_eq) (map (group_key kind) before) (group_key kind t) then []
+    else filter (has_key kind (group_key kind t)) (t ∷ more)
 
 -- a subject, and what is said of it by predicate
 abbrev pub Said : Type 0

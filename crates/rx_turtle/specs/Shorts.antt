@@ -1,5 +1,5 @@
 -- How the prefix of an IRI's short form is found: by the characters at its end, which are those of a local name.
-use Rattle.std.specs.Prelude.{◌≡◌, ◌<◌, ◌≤◌, ◌-◌, ℕ, zero, suc, Bool, false, ◌&&◌, ◌||◌, ◌==◌, nat_eq, List, [], ◌∷◌, take, length, get_or, Option, Some, None, MatchOption, slice_get, encode_utf8_all, if◌then◌else◌}
+use Rattle.std.specs.Prelude.{◌≡◌, ◌<◌, ◌≤◌, ◌-◌, ℕ, zero, suc, Bool, ◌&&◌, ◌||◌, ◌==◌, nat_eq, List, [], ◌∷◌, take, length, get_or, Option, Some, None, MatchOption, slice_get, encode_utf8_all, if◌then◌else◌}
 use Rattle.rx_terms.specs.Common.{pointwise, option_or, is_letter, low_line, Chars}
 use Rattle.rx_notation.specs.Short.{Prefix, Prefixes, is_name_char, is_prefix_name, local_name, prefix_of}
 
@@ -31,20 +31,16 @@ place_below context bytes zero = None
 place_below context bytes (suc n) = if is_name_char (get_or bytes n 0) then option_or (place_at context bytes n) (place_below context bytes n) else None
 
 -- the place of the prefix of the IRI's short form
-abbrev pub place_of : Prefixes → Chars → Option ℕ
-place_of context iri = place_below context (encode_utf8_all iri) (length (encode_utf8_all iri))
+abbrev pub prefix_place : Prefixes → Chars → Option ℕ
+prefix_place context iri = place_below context (encode_utf8_all iri) (length (encode_utf8_all iri))
 
 -- the place has what is said to be there, or both are nothing
 abbrev pub IsPlace : Prefixes → Option Prefix → Option ℕ → Type 0
 IsPlace context prefix place = MatchOption place (prefix ≡ None) (λ i. (found : Prefix) × (slice_get context i ≡ Some found) × (prefix ≡ Some found))
 
 -- the short form of the IRI: the prefix's name, and the bytes of the local name
-pub record IsShort (context : Prefixes) (iri name : Chars) (local : List ℕ) : Type 0 where
+pub record IsPrefixedName (context : Prefixes) (iri name : Chars) (local : List ℕ) : Type 0 where
   pub prefix : Prefix
   pub found : prefix_of context iri ≡ Some prefix
   pub named : name ≡ prefix.0
   pub rest : local ≡ encode_utf8_all (local_name prefix iri)
-
-abbrev pub begins_name : Chars → Bool
-begins_name [] = false
-begins_name (c ∷ name) = is_letter c

@@ -3,7 +3,7 @@ use Rattle.std.specs.Prelude.{ℕ, Bool, true, false, List, [], ◌∷◌, map, 
 use Rattle.rx_model.specs.Common.{Chars, Triple}
 use Rattle.rx_notation.specs.Short.{Prefix, Prefixes}
 use Rattle.rx_notation.specs.Layout.{iris_of}
-use Rattle.rx_turtle.specs.Shorts.{place_of}
+use Rattle.rx_turtle.specs.Shorts.{prefix_place}
 
 -- a mark more, where there is such a place
 abbrev pub marked : List Bool → Option ℕ → List Bool
@@ -13,7 +13,7 @@ marked marks (Some place) = slice_set marks place true
 -- marks more, for the prefixes of these IRIs
 abbrev pub marked_all : Prefixes → List Bool → List Chars → List Bool
 marked_all context marks [] = marks
-marked_all context marks (iri ∷ more) = marked_all context (marked marks (place_of context iri)) more
+marked_all context marks (iri ∷ more) = marked_all context (marked marks (prefix_place context iri)) more
 
 -- no mark
 abbrev pub unmarked : Prefixes → List Bool

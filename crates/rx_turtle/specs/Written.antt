@@ -49,6 +49,6 @@ later [] = []
 later (part ∷ parts) = parts
 
 -- the text of a plan
-abbrev pub text_of : Plan → Chars
-text_of plan =
+abbrev pub planned_text : Plan → Chars
+planned_text plan =
     prefixes_text (chosen plan.marks.items plan.shorts) ++ statements_text plan.shorts (runs by.Subject (lent_triples plan.triples.items))

@@ -3,7 +3,7 @@ ghost use Rattle.std.specs.Prelude.{◌≡◌, ◌<◌, ◌++◌, length, map, f
 ghost use Rattle.rx_model.specs.Common.{contains, same_node, triple_seen, triples_seen};
 ghost use Rattle.rx_graph.specs.Resources.{resource_seen};
 ghost use Rattle.rx_turtle.specs.declared.keys.By.TheVariants as by;
-ghost use Rattle.rx_turtle.specs.Groups.{key_by, grouped, lent_triples, those_with, Appends};
+ghost use Rattle.rx_turtle.specs.Groups.{group_key, grouped, lent_triples, those_with, AppendsLent};
 ghost use Rattle.rx_turtle.specs.Runs.{all_in, runs, like_first, said_by, said_in, by_predicate};
 
 use crate::groups::Groups;
@@ -58,7 +58,7 @@ fn push_arranged<'a>(
     list: &mut Vec<&'a Triple>,
     triples: &[&'a Triple],
 ) -> Result<(), NoMemory>
-    ensures { OnOk result (Appends list.old.items list.new.items (all_in (grouped by.Predicate (lent_triples triples.now)))) }
+    ensures { OnOk result (AppendsLent list.old.items list.new.items (all_in (grouped by.Predicate (lent_triples triples.now)))) }
 {
     if triples.len() <= FEW {
         return push_few(list, triples);
@@ -70,7 +70,7 @@ fn push_arranged<'a>(
 
 /// The same without an index. The time is that of the square of their number.
 fn push_few<'a>(list: &mut Vec<&'a Triple>, triples: &[&'a Triple]) -> Result<(), NoMemory>
-    ensures { OnOk result (Appends list.old.items list.new.items (all_in (grouped by.Predicate (lent_triples triples.now)))) }
+    ensures { OnOk result (AppendsLent list.old.items list.new.items (all_in (grouped by.Predicate (lent_triples triples.now)))) }
 {
     for i in 0..triples.len() {
         let (before, from) = triples.split_at(i);
@@ -85,7 +85,7 @@ fn push_like_first<'a>(
     before: &[&'a Triple],
     from: &[&'a Triple],
 ) -> Result<(), NoMemory>
-    ensures { OnOk result (Appends list.old.items list.new.items (like_first by.Predicate (lent_triples before.now) (lent_triples from.now))) }
+    ensures { OnOk result (AppendsLent list.old.items list.new.items (like_first by.Predicate (lent_triples before.now) (lent_triples from.now))) }
 {
     if from.is_empty() {
         return Ok(());
@@ -99,7 +99,7 @@ fn push_like_first<'a>(
 
 /// Whether one of the triples has this predicate.
 fn occurs(triples: &[&Triple], key: Resource) -> bool
-    ensures { result ≡ contains (same_node nat_eq) (map (key_by by.Predicate) (lent_triples triples.now)) (resource_seen key.entry) }
+    ensures { result ≡ contains (same_node nat_eq) (map (group_key by.Predicate) (lent_triples triples.now)) (resource_seen key.entry) }
 {
     for i in 0..triples.len() {
         if has_key(triples[i], By::Predicate, key) {
@@ -115,7 +115,7 @@ fn push_those_with<'a>(
     triples: &[&'a Triple],
     key: Resource,
 ) -> Result<(), NoMemory>
-    ensures { OnOk result (Appends list.old.items list.new.items (those_with by.Predicate (resource_seen key.entry) (lent_triples triples.now))) }
+    ensures { OnOk result (AppendsLent list.old.items list.new.items (those_with by.Predicate (resource_seen key.entry) (lent_triples triples.now))) }
 {
     for i in 0..triples.len() {
         push_if(list, triples[i], key)?;
@@ -128,7 +128,7 @@ fn push_if<'a>(
     triple: &'a Triple,
     key: Resource,
 ) -> Result<(), NoMemory>
-    ensures { OnOk result (Appends list.old.items list.new.items (those_with by.Predicate (resource_seen key.entry) (triple_seen triple.now ∷ []))) }
+    ensures { OnOk result (AppendsLent list.old.items list.new.items (those_with by.Predicate (resource_seen key.entry) (triple_seen triple.now ∷ []))) }
 {
     if !has_key(triple, By::Predicate, key) {
         return Ok(());
@@ -139,7 +139,7 @@ fn push_if<'a>(
 
 /// Adds the triples of each group.
 fn push_groups<'a>(list: &mut Vec<&'a Triple>, groups: &Groups<'a>) -> Result<(), NoMemory>
-    ensures { OnOk result (Appends list.old.items list.new.items (all_in groups.now)) }
+    ensures { OnOk result (AppendsLent list.old.items list.new.items (all_in groups.now)) }
 {
     for i in 0..groups.len() {
         let (_key, triples) = groups.at(i);
@@ -149,7 +149,7 @@ fn push_groups<'a>(list: &mut Vec<&'a Triple>, groups: &Groups<'a>) -> Result<()
 }
 
 fn push_all<'a>(list: &mut Vec<&'a Triple>, triples: &[&'a Triple]) -> Result<(), NoMemory>
-    ensures { OnOk result (Appends list.old.items list.new.items (lent_triples triples.now)) }
+    ensures { OnOk result (AppendsLent list.old.items list.new.items (lent_triples triples.now)) }
 {
     for i in 0..triples.len() {
         list.push(triples[i])?;

@@ -1,7 +1,7 @@
 //! The cells of a collection.
 ghost use Rattle.std.specs.Prelude.{◌≡◌, ◌++◌, OnOk, option_map};
 ghost use Rattle.rx_model.specs.Seen.{term_seen};
-ghost use Rattle.rx_turtle.specs.Due.{item_due, rest_due, cell_due, list_of, IsSource};
+ghost use Rattle.rx_turtle.specs.Due.{item_due, rest_due, cell_due, source_triples, IsSource};
 
 use crate::source::Source;
 use crate::stack::{Stack, Task};
@@ -16,7 +16,7 @@ pub(crate) fn push_cell<'a>(
     cell: Blank,
 ) -> Result<(), NoMemory>
     requires { IsSource source.now }
-    ensures { OnOk result (stack.new ≡ cell_due (list_of source.now) cell.0 ++ stack.old) }
+    ensures { OnOk result (stack.new ≡ cell_due (source_triples source.now) cell.0 ++ stack.old) }
 {
     let node = Node::Blank(cell);
     let places = source.shapes.places(&node);

@@ -4,7 +4,7 @@ ghost use Rattle.std.specs.List.{list_all};
 ghost use Rattle.rx_graph.specs.Resources.{resource_seen};
 ghost use Rattle.rx_turtle.specs.Groups.{has_key, lent_triples};
 ghost use Rattle.rx_turtle.specs.Cuts.{IsFirstRun};
-ghost use Rattle.rx_turtle.specs.Runs.{runs, starts};
+ghost use Rattle.rx_turtle.specs.Runs.{runs, starts_with_key};
 
 use crate::keys::{By, has_key, key_of};
 use rx_graph::Resource;
@@ -40,11 +40,11 @@ pub fn cut<'s, 'a>(triples: &'s [&'a Triple], by: By) -> Option<Run<'s, 'a>>
 
 /// How many of the first triples have this key. The first one has it.
 fn end_of_run(triples: &[&Triple], by: By, key: Resource) -> usize
-    requires { starts by (resource_seen key) (lent_triples triples.now) ≡ true }
+    requires { starts_with_key by (resource_seen key) (lent_triples triples.now) ≡ true }
     ensures some { 0 < result }
     ensures within { result ≤ length triples.now }
     ensures have { list_all (has_key by (resource_seen key.entry)) (lent_triples (take result triples.now)) ≡ true }
-    ensures ends { starts by (resource_seen key.entry) (lent_triples (drop result triples.now)) ≡ false }
+    ensures ends { starts_with_key by (resource_seen key.entry) (lent_triples (drop result triples.now)) ≡ false }
 {
     for i in 1..triples.len() {
         if !has_key(triples[i], by, key) {

@@ -2,7 +2,7 @@
 ghost use Rattle.std.specs.Prelude.{◌≡◌, ◌<◌, [], ◌∷◌, ◌++◌, true, length, map, nat_eq, IfOk, OnOk, Some, slice_get};
 ghost use Rattle.rx_model.specs.Common.{with_one, same_node, triple_seen};
 ghost use Rattle.rx_graph.specs.Resources.{resource_seen, number_in, AreDistinct};
-ghost use Rattle.rx_turtle.specs.Groups.{Keyed, keys_in, grouped, put_in, taken_in, lent_triples};
+ghost use Rattle.rx_turtle.specs.Groups.{Keyed, group_keys, grouped, put_in, taken_in, lent_triples};
 
 use crate::hints::Hints;
 use crate::keys::{By, are_same, key_of};
@@ -68,10 +68,10 @@ impl<'a> Groups<'a> {
         by: By,
         hint: usize,
     ) -> Result<usize, NoMemory>
-        requires keys { keys.old ≡ keys_in self.old }
-        requires once { AreDistinct (keys_in self.old) }
+        requires keys { keys.old ≡ group_keys self.old }
+        requires once { AreDistinct (group_keys self.old) }
         ensures taken { OnOk result (self.new ≡ taken_in by self.old (triple_seen triple.now)) }
-        ensures keys { OnOk result (keys.new ≡ keys_in self.new) }
+        ensures keys { OnOk result (keys.new ≡ group_keys self.new) }
     {
         let key = key_of(triple, by);
         if self.is_at(hint, key) {
@@ -110,7 +110,7 @@ impl<'a> Groups<'a> {
 
     /// Whether the group at this place has the key.
     fn is_at(&self, place: usize, key: Resource) -> bool
-        ensures { result ≡ true → AreDistinct (keys_in self.now) → number_in (keys_in self.now) (resource_seen key.entry) ≡ Some place }
+        ensures { result ≡ true → AreDistinct (group_keys self.now) → number_in (group_keys self.now) (resource_seen key.entry) ≡ Some place }
     {
         if place >= self.len() {
             return false;

@@ -2,7 +2,7 @@
 ghost use Rattle.std.specs.Prelude.{◌≡◌, nat_eq};
 ghost use Rattle.rx_model.specs.Common.{same_node, triple_seen};
 ghost use Rattle.rx_graph.specs.Resources.{resource_seen};
-ghost use Rattle.rx_turtle.specs.Groups.{key_by, has_key};
+ghost use Rattle.rx_turtle.specs.Groups.{group_key, has_key};
 
 use rx_graph::Resource;
 use rx_terms::Triple;
@@ -18,7 +18,7 @@ pub enum By {
 
 /// The triple's subject or its predicate.
 pub(crate) fn key_of<'a>(triple: &'a Triple, by: By) -> Resource<'a>
-    ensures { resource_seen result ≡ key_by by (triple_seen triple.now) }
+    ensures { resource_seen result ≡ group_key by (triple_seen triple.now) }
 {
     match by {
         By::Subject => Resource::of_node(&triple.subject),

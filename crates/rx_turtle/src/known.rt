@@ -2,7 +2,7 @@
 ghost use Rattle.std.specs.Prelude.{◌≡◌, ◌<◌, ℕ, length, Option, Some, None, IfOk, nat_eq, if◌then◌else◌};
 ghost use Rattle.rx_terms.specs.Common.{pointwise, Chars};
 ghost use Rattle.rx_turtle.specs.Slots.{IsSo};
-ghost use Rattle.rx_turtle.specs.Known.{kept_by, IsEntry, AreEntries};
+ghost use Rattle.rx_turtle.specs.Known.{place_kept, IsEntry, AreEntries};
 
 use rx_terms::{Iri, NoMemory};
 use std::alloc::Global;
@@ -169,7 +169,7 @@ impl<'a> Entry<'a> {
 
     #[inline(always)]
     fn told(&self, iri: &Iri) -> Option<Option<usize>>
-        ensures { result ≡ kept_by self.now iri.now }
+        ensures { result ≡ place_kept self.now iri.now }
     {
         match self {
             Entry::Empty => None,

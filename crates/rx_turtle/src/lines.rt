@@ -5,7 +5,7 @@ ghost use Rattle.rx_graph.specs.Resources.{resource_seen};
 ghost use Rattle.rx_pieces.specs.Writable.{Pushes};
 ghost use Rattle.rx_turtle.specs.declared.keys.By.TheVariants as by;
 ghost use Rattle.rx_turtle.specs.Runs.{runs, said_in};
-ghost use Rattle.rx_turtle.specs.Written.{objects_text, group_text, lines_text, first_line, said_text, statements_text, first_statement, later, text_of};
+ghost use Rattle.rx_turtle.specs.Written.{objects_text, group_text, lines_text, first_line, said_text, statements_text, first_statement, later, planned_text};
 ghost use Rattle.rx_turtle.specs.Groups.{lent_triples};
 
 use crate::cuts::cut;
@@ -22,7 +22,7 @@ use rx_terms::Triple;
 /// Adds the whole text.
 pub(crate) fn push_plan<S: Sink>(out: &mut Pieces, sink: &mut S, plan: &Plan)
     requires { length plan.now.marks.items ≡ length plan.now.shorts }
-    ensures { Pushes S.held S.faults out.old sink.old out.new sink.new (text_of plan.now) }
+    ensures { Pushes S.held S.faults out.old sink.old out.new sink.new (planned_text plan.now) }
 {
     push_prefixes(out, sink, &plan.shorts, &plan.marks);
     push_statements(out, sink, &plan.shorts, &plan.triples);

@@ -2,17 +2,18 @@
 ghost use Rattle.std.specs.Prelude.{◌≡◌};
 ghost use Rattle.rx_terms.specs.Common.{list_all, chars};
 ghost use Rattle.rx_notation.specs.Short.{is_name_char, is_prefix_name};
-ghost use Rattle.rx_turtle.specs.Shorts.{begins_local, begins_name};
+ghost use Rattle.rx_turtle.specs.Shorts.{begins_local};
+ghost use Rattle.rx_terms.specs.Iri.{begins_with_letter};
 
 /// Whether a prefix of this name is used.
 pub(crate) fn is_prefix_name(name: &str) -> bool
     ensures { result ≡ is_prefix_name (chars name.now) }
 {
-    begins_name(name) && are_name_chars(name)
+    begins_with_letter(name) && are_name_chars(name)
 }
 
-fn begins_name(name: &str) -> bool
-    ensures { result ≡ begins_name (chars name.now) }
+fn begins_with_letter(name: &str) -> bool
+    ensures { result ≡ begins_with_letter (chars name.now) }
 {
     match name.chars().next() {
         Some(first) => first.is_ascii_alphabetic(),

@@ -5,7 +5,7 @@ ghost use Rattle.rx_shapes.specs.Table.{shape_in};
 ghost use Rattle.rx_notation.specs.Nesting.{is_top, is_top_by};
 ghost use Rattle.rx_turtle.specs.Groups.{grouped, lent_triples};
 ghost use Rattle.rx_turtle.specs.declared.keys.By.TheVariants as by;
-ghost use Rattle.rx_turtle.specs.Due.{list_of, IsSource, AreCells, Comes, Says, AreTokens, IsSubject};
+ghost use Rattle.rx_turtle.specs.Due.{source_triples, IsSource, AreCells, Comes, AddsStatement, AreGraphTokens, IsSubject};
 
 use crate::due::push_statement;
 use crate::groups::Groups;
@@ -22,7 +22,7 @@ use rx_terms::{NoMemory, Triple};
 /// The tokens of the graph's statements. Time and memory are those of the graph's length.
 pub fn tokens_of<'a>(source: &Source<'a>) -> Result<Vec<Token<'a>>, NoMemory>
     requires { IsSource source.now }
-    ensures { IfOk result (λ tokens. AreTokens source.now tokens.items) }
+    ensures { IfOk result (λ tokens. AreGraphTokens source.now tokens.items) }
 {
     let triples = borrowed(source.alloc, source.graph)?;
     let subjects = Groups::of(source.alloc, &triples, By::Subject)?;
@@ -32,8 +32,8 @@ pub fn tokens_of<'a>(source: &Source<'a>) -> Result<Vec<Token<'a>>, NoMemory>
 /// The tokens of the statements about the subjects, which are those of the graph with their triples.
 fn tokens_about<'a>(source: &Source<'a>, subjects: &Groups<'a>) -> Result<Vec<Token<'a>>, NoMemory>
     requires source { IsSource source.now }
-    requires subjects { subjects.now ≡ grouped by.Subject (list_of source.now) }
-    ensures { IfOk result (λ tokens. AreTokens source.now tokens.items) }
+    requires subjects { subjects.now ≡ grouped by.Subject (source_triples source.now) }
+    ensures { IfOk result (λ tokens. AreGraphTokens source.now tokens.items) }
 {
     let mut stack = Stack::new(source.alloc);
     let mut tokens = Vec::with_capacity(source.alloc, source.graph.len())?;
@@ -53,9 +53,9 @@ fn state<'a>(
     tokens: &mut Vec<Token<'a>>,
 ) -> Result<(), NoMemory>
     requires source { IsSource source.now }
-    requires subject { IsSubject (list_of source.now) (resource_seen subject) (lent_triples triples.now) }
+    requires subject { IsSubject (source_triples source.now) (resource_seen subject) (lent_triples triples.now) }
     requires stack { stack.old ≡ [] }
-    ensures says { OnOk result (Says source.now (resource_seen subject.entry) tokens.old.items tokens.new.items) }
+    ensures says { OnOk result (AddsStatement source.now (resource_seen subject.entry) tokens.old.items tokens.new.items) }
     ensures stack { OnOk result (stack.new ≡ []) }
 {
     if !is_top(source.shapes, subject) {
@@ -92,7 +92,7 @@ fn run<'a>(
     tokens: &mut Vec<Token<'a>>,
 ) -> Result<(), NoMemory>
     requires source { IsSource source.now }
-    requires cells { AreCells (list_of source.now) stack.old }
+    requires cells { AreCells (source_triples source.now) stack.old }
     ensures comes { OnOk result (Comes source.now stack.old tokens.old.items tokens.new.items) }
     ensures stack { OnOk result (stack.new ≡ []) }
 {

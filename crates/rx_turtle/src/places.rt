@@ -3,7 +3,7 @@ ghost use Rattle.std.specs.Prelude.{◌≡◌, ℕ, false, get_or, IfOk, OnOk};
 ghost use Rattle.rx_terms.specs.Common.{chars, IsIri};
 ghost use Rattle.rx_notation.specs.Short.{Prefixes};
 ghost use Rattle.rx_turtle.specs.Shorts.{place_from};
-ghost use Rattle.rx_turtle.specs.Places.{Finds, Puts, PutsBytes};
+ghost use Rattle.rx_turtle.specs.Places.{Finds, PutsBytes, PutsPrefix};
 ghost use Rattle.rx_turtle.specs.Rows.{IsRow, AreRows};
 
 use crate::lengths::Lengths;
@@ -49,7 +49,7 @@ impl<'a> Places<'a> {
 
     /// Adds a place in front of the others.
     fn add(&mut self, name: &str, iri: &'a str, place: usize) -> Result<(), NoMemory>
-        ensures puts { OnOk result (Puts (chars name.now, chars iri.now) place self.old self.new) }
+        ensures puts { OnOk result (PutsPrefix (chars name.now, chars iri.now) place self.old self.new) }
         ensures row { IsIri (chars iri.now) → IsRow (chars name.now, chars iri.now) }
     {
         if !is_prefix_name(name) {

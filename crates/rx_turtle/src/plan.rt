@@ -2,7 +2,7 @@
 ghost use Rattle.std.specs.Prelude.{◌≡◌, length, IfOk};
 ghost use Rattle.rx_model.specs.Seen.{triples_seen};
 ghost use Rattle.rx_notation.specs.Layout.{turtle};
-ghost use Rattle.rx_turtle.specs.Written.{text_of};
+ghost use Rattle.rx_turtle.specs.Written.{planned_text};
 ghost use Rattle.rx_turtle.specs.Graphs.{DenoteTurtle, turtle_bytes};
 
 use crate::arranging::arranged;
@@ -28,7 +28,7 @@ impl<'a> Plan<'a> {
         graph: &'a Graph,
         context: &'a Context,
     ) -> Result<Plan<'a>, NoMemory>
-        ensures text { IfOk result (λ plan. text_of plan ≡ turtle context.now.prefixes (triples_seen graph.now)) }
+        ensures text { IfOk result (λ plan. planned_text plan ≡ turtle context.now.prefixes (triples_seen graph.now)) }
         ensures sizes { IfOk result (λ plan. length plan.marks.items ≡ length plan.shorts) }
         ensures denotes { IfOk result (λ plan. DenoteTurtle graph.now (turtle_bytes context.now.prefixes graph.now)) }
     {

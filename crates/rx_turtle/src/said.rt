@@ -6,7 +6,7 @@ ghost use Rattle.rx_shapes.specs.Table.{AreShapes};
 ghost use Rattle.rx_turtle.specs.Runs.{runs};
 ghost use Rattle.rx_turtle.specs.declared.keys.By.TheVariants as by;
 ghost use Rattle.rx_turtle.specs.Said.{said_of};
-ghost use Rattle.rx_turtle.specs.Groups.{lent_triples, Appends};
+ghost use Rattle.rx_turtle.specs.Groups.{lent_triples, AppendsLent};
 
 use crate::arranging::by_predicate;
 use rx_graph::Graph;
@@ -44,7 +44,7 @@ fn picked<'a>(
 }
 
 fn pick<'a>(triples: &mut Vec<&'a Triple>, graph: &'a Graph, place: usize) -> Result<(), NoMemory>
-    ensures { OnOk result (Appends triples.old.items triples.new.items (option_to_list (slice_get (triples_seen graph.now) place))) }
+    ensures { OnOk result (AppendsLent triples.old.items triples.new.items (option_to_list (slice_get (triples_seen graph.now) place))) }
 {
     let Some(triple) = triple_at(graph, place) else {
         return Ok(());

@@ -2,7 +2,7 @@
 ghost use Rattle.std.specs.Prelude.{◌≡◌, ◌<◌, ◌≤◌, ◌-◌, length, true, false, IfOk, MatchOption, None, Some, slice_get, get_or, List, ℕ, drop, encode_utf8_all};
 ghost use Rattle.rx_terms.specs.Common.{chars, IsIri, begins_with};
 ghost use Rattle.rx_notation.specs.Short.{is_name_char, prefix_of, names_rise};
-ghost use Rattle.rx_turtle.specs.Shorts.{EndsNone, place_at, place_below, place_of, IsPlace, IsShort};
+ghost use Rattle.rx_turtle.specs.Shorts.{EndsNone, place_at, place_below, prefix_place, IsPlace, IsPrefixedName};
 ghost use Rattle.rx_turtle.specs.Rows.{AreRows};
 ghost use Rattle.rx_turtle.specs.Slots.{IsSo};
 
@@ -73,7 +73,7 @@ impl<'a> Shorts<'a> {
     /// The place of the prefix that makes the IRI's short form, where it has one. The time is that of the local name's
     /// length, and of each text as long as some prefix's IRI that ends as one and can stand before a local name.
     pub fn place(&self, iri: &Iri) -> Option<usize>
-        ensures place { result ≡ place_of self.now iri.now }
+        ensures place { result ≡ prefix_place self.now iri.now }
         ensures is { IsPlace self.now (prefix_of self.now iri.now) result }
     {
         if self.context.prefix_count() == 0 {
@@ -84,7 +84,7 @@ impl<'a> Shorts<'a> {
 
     /// The same, and it is kept, so that the IRI isn't shortened again.
     pub fn learn(&mut self, iri: &'a Iri) -> Result<Option<usize>, NoMemory>
-        ensures place { IfOk result (λ place. place ≡ place_of self.old iri.now) }
+        ensures place { IfOk result (λ place. place ≡ prefix_place self.old iri.now) }
         ensures same { self.new ≡ self.old }
     {
         if self.context.prefix_count() == 0 {
@@ -99,7 +99,7 @@ impl<'a> Shorts<'a> {
     }
 
     fn found(&self, iri: &Iri) -> Option<usize>
-        ensures { result ≡ place_of self.now iri.now }
+        ensures { result ≡ prefix_place self.now iri.now }
     {
         match self.told(iri) {
             Some(place) => place,
@@ -110,14 +110,14 @@ impl<'a> Shorts<'a> {
     /// What is known of the IRI.
     #[inline(always)]
     fn told(&self, iri: &Iri) -> Option<Option<usize>>
-        ensures { IsSo result (place_of self.now iri.now) }
+        ensures { IsSo result (prefix_place self.now iri.now) }
     {
         self.known.told(iri)
     }
 
     /// The place, where nothing is known.
     fn searched(&self, iri: &Iri) -> Option<usize>
-        ensures { result ≡ place_of self.now iri.now }
+        ensures { result ≡ prefix_place self.now iri.now }
     {
         self.place_within(iri.as_str().as_bytes())
     }
@@ -178,7 +178,7 @@ impl<'a> Shorts<'a> {
 
     /// The short form of the IRI, where it has one: the prefix's name, and the bytes of the local name.
     pub fn short<'b>(&'b self, iri: &'b Iri) -> Option<(&'b str, &'b [u8])>
-        ensures { MatchOption result (prefix_of self.now iri.now ≡ None) (λ short. IsShort self.now iri.now (chars short.0.now) short.1.now) }
+        ensures { MatchOption result (prefix_of self.now iri.now ≡ None) (λ short. IsPrefixedName self.now iri.now (chars short.0.now) short.1.now) }
     {
         let Some(place) = self.place(iri) else {
             return None;

@@ -1,7 +1,7 @@
 //! What a number of a text tells of the IRIs that prefixes stand for.
 ghost use Rattle.std.specs.Prelude.{◌≡◌, ◌<◌, ℕ, List, length, Option, Some, None, IfOk, if◌then◌else◌, nat_eq};
 ghost use Rattle.std.specs.Cmp.Lexicographic.{pointwise};
-ghost use Rattle.rx_turtle.specs.Slots.{number_of, slot_of, with_iri, placed, told_by, told, Tells};
+ghost use Rattle.rx_turtle.specs.Slots.{iri_hash, text_slot, with_iri, found_with, told_by, told_place, SlotsTell};
 
 use rx_terms::NoMemory;
 use std::alloc::Global;
@@ -45,7 +45,7 @@ impl<'a> Model for Slots<'a> {
 impl<'a> Slots<'a> {
     /// Slots for the IRIs of so many prefixes, none of which is there yet.
     pub(crate) fn new(alloc: Global, count: usize) -> Result<Slots<'a>, NoMemory>
-        ensures { IfOk result (λ slots. Tells slots (λ bytes. None)) }
+        ensures { IfOk result (λ slots. SlotsTell slots (λ bytes. None)) }
     {
         let slots = vec![in alloc; Slot::Free; (count.min(MOST) * 4 + SPARE).next_power_of_two()]?;
         Ok(Slots { slots })
@@ -53,7 +53,7 @@ impl<'a> Slots<'a> {
 
     #[inline(always)]
     fn slot_of(&self, bytes: &[u8]) -> usize
-        ensures slot { result ≡ slot_of self.now bytes.now }
+        ensures slot { result ≡ text_slot self.now bytes.now }
         ensures within { result < length self.now }
     {
         number_of(bytes) & (self.slots.len() - 1)
@@ -62,14 +62,14 @@ impl<'a> Slots<'a> {
     /// The place of the prefix that stands for the IRI of these bytes, where that is known.
     #[inline(always)]
     pub(crate) fn told(&self, bytes: &[u8]) -> Option<Option<usize>>
-        ensures { result ≡ told self.now bytes.now }
+        ensures { result ≡ told_place self.now bytes.now }
     {
         self.slots[self.slot_of(bytes)].told(bytes)
     }
 
     /// Puts the place of a prefix in, where it is the last for its IRI.
     pub(crate) fn put(&mut self, iri: &'a [u8], place: usize)
-        ensures { (found : List ℕ → Option ℕ) → Tells self.old found → Tells self.new (placed iri.now place found) }
+        ensures { (found : List ℕ → Option ℕ) → SlotsTell self.old found → SlotsTell self.new (found_with iri.now place found) }
     {
         let slot = self.slot_of(iri);
         self.slots[slot] = self.slots[slot].with(iri, place);
@@ -117,7 +117,7 @@ fn place_if(is_there: bool, place: usize) -> Option<usize>
 /// tells little. Of the prefixes that are in wide use no two have one slot.
 #[inline(always)]
 fn number_of(bytes: &[u8]) -> usize
-    ensures { result ≡ number_of bytes.now }
+    ensures { result ≡ iri_hash bytes.now }
 {
     let size = bytes.len();
     if size < 8 {

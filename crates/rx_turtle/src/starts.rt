@@ -7,7 +7,7 @@ ghost use Rattle.rx_model.specs.Terms as model;
 ghost use Rattle.rx_shapes.specs.declared.shapes.Shape.TheVariants as shape;
 ghost use Rattle.rx_turtle.specs.Said.{said_of};
 ghost use Rattle.rx_turtle.specs.Tokens.{token_seen};
-ghost use Rattle.rx_turtle.specs.Due.{Opens, task_seen, Say, After, bracket_due, iri_due, node_due, term_due, opened, list_of, shapes_of, IsSource};
+ghost use Rattle.rx_turtle.specs.Due.{BeginsDue, task_seen, Say, After, bracket_due, iri_due, node_due, term_due, opened, source_triples, shapes_of, IsSource};
 ghost use Rattle.rx_turtle.specs.Groups.{lent_triples};
 
 use crate::cells::push_cell;
@@ -27,7 +27,7 @@ pub(crate) fn start<'a>(
     task: Task<'a>,
 ) -> Result<Token<'a>, NoMemory>
     requires { IsSource source.now }
-    ensures { IfOk result (Opens (opened (list_of source.now) (shapes_of source.now) (task_seen task.entry)) stack.old stack.new) }
+    ensures { IfOk result (BeginsDue (opened (source_triples source.now) (shapes_of source.now) (task_seen task.entry)) stack.old stack.new) }
 {
     match task {
         Task::Say(token) => Ok(token),
@@ -42,7 +42,7 @@ fn start_term<'a>(
     term: &'a Term,
 ) -> Result<Token<'a>, NoMemory>
     requires { IsSource source.now }
-    ensures { IfOk result (Opens (term_due (list_of source.now) (shapes_of source.now) (term_seen term.now)) stack.old stack.new) }
+    ensures { IfOk result (BeginsDue (term_due (source_triples source.now) (shapes_of source.now) (term_seen term.now)) stack.old stack.new) }
 {
     match term {
         Term::Iri(iri) => Ok(iri_token(iri)),
@@ -75,7 +75,7 @@ fn start_node<'a>(
     shape: Shape,
 ) -> Result<Token<'a>, NoMemory>
     requires { IsSource source.now }
-    ensures { IfOk result (Opens (node_due (list_of source.now) shape blank.0) stack.old stack.new) }
+    ensures { IfOk result (BeginsDue (node_due (source_triples source.now) shape blank.0) stack.old stack.new) }
 {
     match shape {
         Shape::Labelled => Ok(Token::IriOrLabel(Resource::Blank(blank))),
@@ -90,7 +90,7 @@ fn start_inside<'a>(
     blank: Blank,
 ) -> Result<Token<'a>, NoMemory>
     requires { IsSource source.now }
-    ensures { IfOk result (Opens (bracket_due (said_of (list_of source.now) (model.Blank blank.0))) stack.old stack.new) }
+    ensures { IfOk result (BeginsDue (bracket_due (said_of (source_triples source.now) (model.Blank blank.0))) stack.old stack.new) }
 {
     let said = said_of(
         source.alloc,
@@ -104,7 +104,7 @@ fn start_inside<'a>(
 
 /// A node of which this is said, in brackets.
 fn start_brackets<'a>(stack: &mut Stack<'a>, said: &[&'a Triple]) -> Result<Token<'a>, NoMemory>
-    ensures { IfOk result (Opens (bracket_due (runs by.Predicate (lent_triples said.now))) stack.old stack.new) }
+    ensures { IfOk result (BeginsDue (bracket_due (runs by.Predicate (lent_triples said.now))) stack.old stack.new) }
 {
     if said.is_empty() {
         return Ok(Token::Fixed(Words::Empty));
@@ -121,7 +121,7 @@ fn start_list<'a>(
     cell: Blank,
 ) -> Result<Token<'a>, NoMemory>
     requires { IsSource source.now }
-    ensures { IfOk result (Opens (node_due (list_of source.now) shape.Cell cell.0) stack.old stack.new) }
+    ensures { IfOk result (BeginsDue (node_due (source_triples source.now) shape.Cell cell.0) stack.old stack.new) }
 {
     stack.say(Words::CloseList)?;
     push_cell(source, stack, cell)?;
@@ -135,7 +135,7 @@ fn start_after<'a>(
     cell: Blank,
 ) -> Result<Token<'a>, NoMemory>
     requires { IsSource source.now }
-    ensures { IfOk result (Opens (opened (list_of source.now) (shapes_of source.now) (After cell.0)) stack.old stack.new) }
+    ensures { IfOk result (BeginsDue (opened (source_triples source.now) (shapes_of source.now) (After cell.0)) stack.old stack.new) }
 {
     push_cell(source, stack, cell)?;
     Ok(Token::Fixed(Words::Space))

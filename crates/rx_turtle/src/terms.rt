@@ -2,7 +2,7 @@
 ghost use Rattle.std.specs.Prelude.{◌++◌, codes};
 ghost use Rattle.rx_model.specs.Seen.{kind_seen, term_seen};
 ghost use Rattle.rx_graph.specs.Resources.{resource_seen};
-ghost use Rattle.rx_notation.specs.Layout.{short_iri, resource_text, verb_text, suffix_text, object_text};
+ghost use Rattle.rx_notation.specs.Layout.{short_iri, resource_text, short_predicate, kind_suffix, object_text};
 ghost use Rattle.rx_pieces.specs.Writing.{blank_text, string_text};
 ghost use Rattle.rx_pieces.specs.Writable.{Pushes};
 ghost use Rattle.rx_turtle.specs.Verbs.{key_text};
@@ -59,7 +59,7 @@ pub fn push_key<S: Sink>(out: &mut Pieces, sink: &mut S, shorts: &Shorts, key: R
 }
 
 fn push_verb<S: Sink>(out: &mut Pieces, sink: &mut S, shorts: &Shorts, predicate: &Iri)
-    ensures { Pushes S.held S.faults out.old sink.old out.new sink.new (verb_text shorts.now predicate.now) }
+    ensures { Pushes S.held S.faults out.old sink.old out.new sink.new (short_predicate shorts.now predicate.now) }
 {
     if is_type(predicate) {
         return push(out, sink, "a");
@@ -81,7 +81,7 @@ pub fn push_object<S: Sink>(out: &mut Pieces, sink: &mut S, shorts: &Shorts, obj
 /// Adds a literal: its text in quotation marks, and its language tag or datatype.
 pub fn push_literal<S: Sink>(out: &mut Pieces, sink: &mut S, shorts: &Shorts, literal: &Literal)
     ensures { Pushes S.held S.faults out.old sink.old out.new sink.new
-        (string_text literal.now.lexical ++ suffix_text shorts.now (kind_seen literal.now.kind)) }
+        (string_text literal.now.lexical ++ kind_suffix shorts.now (kind_seen literal.now.kind)) }
 {
     push_text(out, sink, "\"", &literal.lexical);
     push(out, sink, "\"");
@@ -89,7 +89,7 @@ pub fn push_literal<S: Sink>(out: &mut Pieces, sink: &mut S, shorts: &Shorts, li
 }
 
 fn push_suffix<S: Sink>(out: &mut Pieces, sink: &mut S, shorts: &Shorts, kind: &LiteralKind)
-    ensures { Pushes S.held S.faults out.old sink.old out.new sink.new (suffix_text shorts.now (kind_seen kind.now)) }
+    ensures { Pushes S.held S.faults out.old sink.old out.new sink.new (kind_suffix shorts.now (kind_seen kind.now)) }
 {
     match kind {
         LiteralKind::Plain => {}

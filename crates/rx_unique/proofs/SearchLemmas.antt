@@ -6,7 +6,7 @@ use Rattle.std.proofs.lemmas.List.{length-map, map-append, get_or-map, get_or-ta
 use Rattle.std.specs.Cmp.{IsEquivalence}
 use Rattle.std.proofs.lemmas.Map.Keys.{apart_from_distinct, IsDistinct-push}
 use Rattle.rx_unique.specs.Places.{last_place}
-use Rattle.rx_unique.specs.Slots.{mark_of, IsOther, IsHeld, AreHeld}
+use Rattle.rx_unique.specs.Slots.{slot_mark, IsAmongOthers, IsHeld, AreHeld}
 use Rattle.rx_unique.specs.Unique.{AreKept, AreOthers, MayAdd, insert_key}
 use Rattle.rx_unique.proofs.PlaceLemmas.{last-within}
 use Rattle.rx_unique.proofs.SlotLemmas.{held-none, held-more}
@@ -151,17 +151,17 @@ module _ {K : Type 0} (same : K → K → Bool) (quick number : K → ℕ) (test
       (kept.held.each i (omega (arith, inside, ap (λ (l : List ℕ). length l) kept.hashed ∙ length-map keys quick)))
 
   -- where the slot is free there is none
-  pub free-none : mark_of slots hash ≡ 0 → None ≡ position test keys
+  pub free-none : slot_mark slots hash ≡ 0 → None ≡ position test keys
   free-none free = absent test keys (λ i d inside. false_from_ne_true (test (get_or keys i d)) (λ t. (held-at i d inside t).taken free))
 
   -- nor where neither the first key of the slot passes nor one of the others
   pub sought-none :
       (n : ℕ) (next : Option ℕ) (first : ℕ) → Sought test n keys others numbers next → next ≡ None
-      → ((place : ℕ) → mark_of slots hash ≡ suc place → first ≡ place)
+      → ((place : ℕ) → slot_mark slots hash ≡ suc place → first ≡ place)
       → ((d : K) → first < length keys → test (get_or keys first d) ≡ false)
       → None ≡ position test keys
   sought-none n next first sought is own fails = absent test keys (λ i d inside. false_from_ne_true (test (get_or keys i d)) (λ t. refuted i d inside t (held-at i d inside t).own)) where
-    refuted : (i : ℕ) (d : K) → i < length keys → test (get_or keys i d) ≡ true → (mark_of slots hash ≡ suc i) ⊎ IsOther others i → ⊥
+    refuted : (i : ℕ) (d : K) → i < length keys → test (get_or keys i d) ≡ true → (slot_mark slots hash ≡ suc i) ⊎ IsAmongOthers others i → ⊥
     refuted i d inside t (inl mark) =
         let at : first ≡ i = own i mark in
         true≢false (sym t ∙ ap (λ (k : ℕ). test (get_or keys k d)) (sym at) ∙ fails d (omega (arith, inside, at)))

@@ -1,7 +1,7 @@
 -- What slots say of keys.
 use Rattle.rx_terms.proofs.Common.{◌≡◌, ◌≢◌, ◌∙◌, ℕ, suc, ◌+◌, ◌<◌, ◌≤◌, ◌⊎◌, inl, inr, ap, sym, arith, true, false, true≢false, nat_eq, Option, Some, None, List, [], ◌∷◌, ◌++◌, take, length, get_or, subst, IfSome, IfNone, cases_lt, nat_tests, option_eq}
 use Rattle.std.proofs.lemmas.List.{get_or_append_left, get_or_push, length_push, length-take-le, take_more}
-use Rattle.rx_unique.specs.Slots.{mark_of, IsOther, IsHeld, AreHeld}
+use Rattle.rx_unique.specs.Slots.{slot_mark, IsAmongOthers, IsHeld, AreHeld}
 
 -- no key
 pub held-none : (slots others hashes : List ℕ) → hashes ≡ [] → AreHeld slots others hashes
@@ -31,9 +31,9 @@ held-turn slots others hashes place l held new =
 -- a key that isn't the first of its slot is one of the others
 pub held-other :
     (slots others hashes : List ℕ) (place : ℕ) (first : Option ℕ) → AreHeld slots others hashes → place < length hashes
-    → IfNone first (mark_of slots (get_or hashes place 0) ≡ 0)
-    → IfSome first (λ first. (place' : ℕ) → mark_of slots (get_or hashes place 0) ≡ suc place' → first ≡ place')
-    → option_eq nat_eq first (Some place) ≡ false → IsOther others place
+    → IfNone first (slot_mark slots (get_or hashes place 0) ≡ 0)
+    → IfSome first (λ first. (place' : ℕ) → slot_mark slots (get_or hashes place 0) ≡ suc place' → first ≡ place')
+    → option_eq nat_eq first (Some place) ≡ false → IsAmongOthers others place
 held-other slots others hashes place first held l free own unlike = go (held.each place l).own where
   apart : (first : Option ℕ) (mark : ℕ) → IfNone first (mark ≡ 0) → IfSome first (λ first. (place' : ℕ) → mark ≡ suc place' → first ≡ place') → option_eq nat_eq first (Some place) ≡ false → mark ≢ suc place
   apart None mark free own unlike e = absurd (omega (arith, free, e))
@@ -42,6 +42,6 @@ held-other slots others hashes place first held l free own unlike = go (held.eac
       let alike : nat_eq f place ≡ true = grind (arith, nat_tests, same) in
       true≢false (sym alike ∙ unlike)
 
-  go : (mark_of slots (get_or hashes place 0) ≡ suc place) ⊎ IsOther others place → IsOther others place
-  go (inl mark) = absurd (apart first (mark_of slots (get_or hashes place 0)) free own unlike mark)
+  go : (slot_mark slots (get_or hashes place 0) ≡ suc place) ⊎ IsAmongOthers others place → IsAmongOthers others place
+  go (inl mark) = absurd (apart first (slot_mark slots (get_or hashes place 0)) free own unlike mark)
   go (inr is) = is

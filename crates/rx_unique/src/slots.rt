@@ -1,6 +1,6 @@
 //! Slots for keys, by the low bits of their quick hashes.
 ghost use Rattle.std.specs.Prelude.{◌≡◌, ◌≢◌, ◌<◌, suc, ℕ, List, length, IsTrue, IfSome, IfNone, IfOk, OnOk};
-ghost use Rattle.rx_unique.specs.Slots.{slot_of, mark_of, AreHeld};
+ghost use Rattle.rx_unique.specs.Slots.{hash_slot, slot_mark, AreHeld};
 
 use rx_terms::NoMemory;
 use std::alloc::Global;
@@ -53,7 +53,7 @@ impl Slots {
 
     #[inline(always)]
     fn slot_of(&self, hash: u64) -> usize
-        ensures slot { result ≡ slot_of self.now hash }
+        ensures slot { result ≡ hash_slot self.now hash }
         ensures within { 0 < length self.now → result < length self.now }
     {
         hash as usize & self.marks.len().saturating_sub(1)
@@ -63,8 +63,8 @@ impl Slots {
     /// key came.
     #[inline(always)]
     pub(crate) fn first(&self, hash: u64) -> Option<usize>
-        ensures free { IfNone result (mark_of self.now hash ≡ 0) }
-        ensures own { IfSome result (λ first. (place : ℕ) → mark_of self.now hash ≡ suc place → first ≡ place) }
+        ensures free { IfNone result (slot_mark self.now hash ≡ 0) }
+        ensures own { IfSome result (λ first. (place : ℕ) → slot_mark self.now hash ≡ suc place → first ≡ place) }
     {
         let mark = self.marks.get(self.slot_of(hash)).copied().unwrap_or(0);
         if mark == 0 {
@@ -78,10 +78,10 @@ impl Slots {
     pub(crate) fn take(&mut self, hash: u64, place: usize) -> bool
         requires { 0 < length self.old }
         ensures held { (others hashes : List ℕ) → AreHeld self.old others hashes → AreHeld self.new others hashes }
-        ensures taken { mark_of self.new hash ≢ 0 }
-        ensures own { IsTrue result → mark_of self.new hash ≡ suc place }
+        ensures taken { slot_mark self.new hash ≢ 0 }
+        ensures own { IsTrue result → slot_mark self.new hash ≡ suc place }
         ensures length { length self.new ≡ length self.old }
-        ensures stays { mark_of self.old hash ≢ 0 → self.new ≡ self.old }
+        ensures stays { slot_mark self.old hash ≢ 0 → self.new ≡ self.old }
     {
         let slot = self.slot_of(hash);
         if self.marks[slot] != 0 {

@@ -4,10 +4,10 @@ use Rattle.rx_terms.specs.Text.{Chars}
 use Rattle.rx_values.specs.declared.patterns.TimeKind.{TimeKind}
 use Rattle.rx_values.specs.declared.patterns.TimeKind.TheVariants.{Date, Time, DateTime, Duration, Year, YearMonth}
 
-abbrev pub kind_name : TimeKind → Chars
-kind_name Date = codes "date"
-kind_name Time = codes "time"
-kind_name DateTime = codes "dateTime"
-kind_name Duration = codes "duration"
-kind_name Year = codes "gYear"
-kind_name YearMonth = codes "gYearMonth"
+abbrev pub datatype_name : TimeKind → Chars
+datatype_name Date = codes "date"
+datatype_name Time = codes "time"
+datatype_name DateTime = codes "dateTime"
+datatype_name Duration = codes "duration"
+datatype_name Year = codes "gYear"
+datatype_name YearMonth = codes "gYearMonth"

@@ -1,7 +1,7 @@
 //! The forms of times.
 ghost use Rattle.std.specs.Prelude.{◌≡◌, option_copied, option_map};
 ghost use Rattle.std.specs.Str.{chars};
-ghost use Rattle.rx_values.specs.Kinds.{kind_name};
+ghost use Rattle.rx_values.specs.Kinds.{datatype_name};
 ghost use Rattle.rx_rdfa.specs.Times.{follows, is_zone, after_year, after_month, after_date, after_char, after_clock, time_kind, ◌andThen◌};
 
 use crate::clocks::after_clock;
@@ -23,14 +23,14 @@ pub enum TimeKind {
 
 /// The datatype whose lexical form the whole text has, and None where it has that of none. White space isn't trimmed.
 pub fn pattern(text: &str) -> Option<TimeKind>
-    ensures { option_map kind_name result ≡ time_kind (chars text.now) }
+    ensures { option_map datatype_name result ≡ time_kind (chars text.now) }
 {
     kind_of(text.as_bytes())
 }
 
 #[tactic(auto, unfolding(rx_rdfa::specs::Times::time_kind))]
 fn kind_of(text: &[u8]) -> Option<TimeKind>
-    ensures { option_map kind_name result ≡ time_kind text.now }
+    ensures { option_map datatype_name result ≡ time_kind text.now }
 {
     let year = after_year(text);
     if ends_in_zone(year) {

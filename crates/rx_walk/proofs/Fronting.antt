@@ -1,5 +1,5 @@
 -- What the signs of one element say of the calls for them.
-use Rattle.rx_walk.proofs.Common.{◌≡◌, ◌∙◌, ℕ, zero, suc, ◌≤◌, ◌<◌, Bool, true, false, List, [], ◌∷◌, ◌++◌, map, length, refl, sym, ap, subst, Option, Some, None, arith, nat_tests, nat_le, if◌then◌else◌, Chars, Context, Tag, StartTag, Sign, begun, said, finished, Front, unbegun, inside, over, levels_of, goes, goes_on, IsFront, line_on, line_of, call_of, calls_of, singles, moves, within, move_all, MayBe}
+use Rattle.rx_walk.proofs.Common.{◌≡◌, ◌∙◌, ℕ, zero, suc, ◌≤◌, ◌<◌, Bool, true, false, List, [], ◌∷◌, ◌++◌, map, length, refl, sym, ap, subst, Option, Some, None, arith, nat_tests, nat_le, if◌then◌else◌, Chars, Context, ElementTag, StartTag, Sign, begun, said, finished, Front, unbegun, inside, over, levels_of, goes, goes_on, IsFront, line_on, line_of, call_of, calls_of, singles, moves, within, move_all, MayBe}
 use Rattle.rx_walk.proofs.Moving.{none_moves, move_append, within_some}
 use Rattle.rx_walk.proofs.Signed.{calls_append, said_calls}
 
@@ -12,7 +12,7 @@ goes_append front [] ys = refl
 goes_append None (x ∷ xs) ys = sym (none_goes ys)
 goes_append (Some front) (x ∷ xs) ys = goes_append (goes front x) xs ys
 
-goes_same : (context : Context) (line : List Tag) (front : Front) (sign : Sign) → moves front (call_of context line sign) ≡ goes front sign
+goes_same : (context : Context) (line : List ElementTag) (front : Front) (sign : Sign) → moves front (call_of context line sign) ≡ goes front sign
 goes_same context line unbegun (begun t) = refl
 goes_same context line (inside zero) finished = refl
 goes_same context line (inside (suc n)) (said c) = refl
@@ -20,7 +20,7 @@ goes_same context line over (begun t) = refl
 goes_same _ _ _ _ = refl
 
 -- moves within the levels are moves
-same_front : (context : Context) (levels : ℕ) (line : List Tag) (signs : List Sign) (front : Option Front) (last : Front)
+same_front : (context : Context) (levels : ℕ) (line : List ElementTag) (signs : List Sign) (front : Option Front) (last : Front)
     → move_all levels front (calls_of context line signs) ≡ Some last → goes_on front signs ≡ Some last
 same_front context levels line [] front last e = e
 same_front context levels line (sign ∷ signs) None last e = absurd (cc)
@@ -37,7 +37,7 @@ has_begun unbegun = false
 has_begun _ = true
 
 -- as many elements are open as the line has, and what has begun stays so
-walked : (signs : List Sign) (line : List Tag) (front last : Front) → levels_of front ≡ length line → goes_on (Some front) signs ≡ Some last → (levels_of last ≡ length (line_of line signs)) × (has_begun front ≡ true → has_begun last ≡ true)
+walked : (signs : List Sign) (line : List ElementTag) (front last : Front) → levels_of front ≡ length line → goes_on (Some front) signs ≡ Some last → (levels_of last ≡ length (line_of line signs)) × (has_begun front ≡ true → has_begun last ≡ true)
 walked [] line front last c e = let is : front ≡ last = cc in (ap levels_of (sym is) ∙ c, subst (λ f. has_begun f ≡ true) is)
 walked (begun t ∷ signs) line unbegun last c e = let w = walked signs (line_on line (begun t)) (inside 0) last (ap suc c) e in (w.0, λ b. w.1 refl)
 walked (begun t ∷ signs) line (inside n) last c e = let w = walked signs (line_on line (begun t)) (inside (suc n)) last (ap suc c) e in (w.0, λ b. w.1 refl)
@@ -57,7 +57,7 @@ one_more levels next last e l =
     let t : nat_le (levels_of next) levels ≡ true = subst (λ f. nat_le (levels_of f) levels ≡ true) (sym is) (grind (arith, nat_tests)) in
     ap (λ b. if b then Some next else None) t ∙ ap Some is
 
-after_one : (context : Context) (levels : ℕ) (line : List Tag) (front last : Front) (sign : Sign) → goes_on (Some front) (sign ∷ []) ≡ Some last → levels_of last ≤ levels
+after_one : (context : Context) (levels : ℕ) (line : List ElementTag) (front last : Front) (sign : Sign) → goes_on (Some front) (sign ∷ []) ≡ Some last → levels_of last ≤ levels
     → move_all levels (Some front) (call_of context line sign ∷ []) ≡ Some last
 after_one context levels line front last sign e l = ap (within levels) (goes_same context line front sign) ∙ by (goes front sign) e
   where

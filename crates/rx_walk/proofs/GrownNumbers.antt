@@ -1,6 +1,6 @@
 -- A walk's numbering only grows.
-use Rattle.rx_walk.proofs.Common.{◌≡◌, ◌∙◌, ℕ, List, [], ◌∷◌, ◌++◌, refl, sym, ap, subst, subst₂, Option, Some, append-nil, Chars, base_by, base_of, root_href, Call, calls, with_facts, Numbering, begun_state, State, tags_of, finish_makes, Syntax, start_of, Page, Tree, Sign, Sight, sees, nothing_seen, signs_of, calls_of, Leads, line_of, first_child, known, seeks, sought, Setting, Known, Walked, WalkStands, state_of, seeks_append, Enter, Read, Leave, Steps, no_numbers, begun_stands}
-use Rattle.rx_rdfa.specs.Machine.{begun}
+use Rattle.rx_walk.proofs.Common.{◌≡◌, ◌∙◌, ℕ, List, [], ◌∷◌, ◌++◌, refl, sym, ap, subst, subst₂, Option, Some, append-nil, Chars, base_by, base_of, root_href, Call, calls, with_facts, Numbering, begun_state, State, tags_of, finish_makes, Syntax, start_tag_of, Page, Tree, Sign, Sight, sees, nothing_seen, signs_of, calls_of, Leads, line_of, first_child, known, seeks, sought, Setting, Known, Walked, WalkStands, found_state, seeks_append, Enter, Read, Leave, StepsByCall, no_numbers, begun_stands}
+use Rattle.rx_rdfa.specs.Machine.{machine_begun}
 use Rattle.rx_grammar.specs.declared.limits.Limits.{Limits}
 use Rattle.rx_pages.specs.PageReader.{Progress}
 use Rattle.rx_nest.proofs.TagPlaces.{shows_more}
@@ -18,7 +18,7 @@ use Rattle.rx_walk.proofs.Wholes.{known_at}
 use Rattle.rx_eval.specs.Standing as eval
 
 -- the same calls lead to states that are the same but for how the rules for texts are written
-one_same : (call : Call) (list : List Call) (to : Numbering) (a b x y : State) → Same a b → eval.EvaluatorStands to list a → Steps call a x → Steps call b y → Same x y
+one_same : (call : Call) (list : List Call) (to : Numbering) (a b x y : State) → Same a b → eval.EvaluatorStands to list a → StepsByCall call a x → StepsByCall call b y → Same x y
 one_same (Enter facts) list to a b x y e s o p = opens_same a b e facts x y o.1 p.1
 one_same (Read chars) list to a b x y e s o p = subst₂ Same (sym o) (sym p) (reads_same a b e chars)
 one_same Leave list to a b x y e s o p = closes_same a b e to list s x y o p
@@ -49,7 +49,7 @@ module _ (setting : Setting) (address : Chars) where
   progress walk bytes s = record { now = s.goes.shown.at.now; told = s.goes.shown.told }
 
   -- what the evaluator was led by is led on
-  module _ (walk : Walked) (bytes : List ℕ) (s : WalkStands setting address walk bytes) (old : State) (is : state_of walk.listener.stage ≡ Some old) (to : Numbering)
+  module _ (walk : Walked) (bytes : List ℕ) (s : WalkStands setting address walk bytes) (old : State) (is : found_state walk.listener.stage ≡ Some old) (to : Numbering)
       (by : NumbersBy to setting.context s.goes.signs old) (all : List Sign) (m : IsMore s.goes.signs all) where
     abbrev first_calls : List Call
     first_calls = calls_of setting.context [] s.goes.signs
@@ -89,7 +89,7 @@ module _ (setting : Setting) (address : Chars) where
 tree_base : (syntax : Syntax) (limits : Limits) (bytes : List ℕ) (tree : Tree) → Page syntax limits bytes tree → sought (signs_of tree) ≡ known (root_href (tags_of tree))
 tree_base syntax limits bytes tree page =
     let d = page.document in
-    subst (λ t. sought (signs_of t) ≡ known (root_href (tags_of t))) (sym d.tree_is) (base_found (start_of d.root d.t) d.inside)
+    subst (λ t. sought (signs_of t) ≡ known (root_href (tags_of t))) (sym d.tree_is) (base_found (start_tag_of d.root d.t) d.inside)
 
 pub numbers_grow : NumbersGrow
 numbers_grow setting address before after bytes piece s t old new was is to by =
@@ -114,7 +114,7 @@ list_is_numbered setting address walk bytes piece s old is to by list e =
     let x = on setting address walk bytes s old is to by (signs_of tree) (tree_more setting address walk bytes piece s tree e.page) (root_href (tags_of tree)) state
     (tree_base setting.syntax setting.limits (bytes ++ piece) tree e.page) e.lists.led.leads in
     let stands = subst (λ cs. eval.EvaluatorStands x.now cs state) (calls_tree setting.context [] tree) x.stands in
-    let whole : eval.EvaluatorStands x.now (calls nodes) state = record { page = stands.page; phase = subst (λ m. eval.Phase state.ended x.now m state) (pieces_alike state.base (calls nodes) begun) stands.phase } in
+    let whole : eval.EvaluatorStands x.now (calls nodes) state = record { page = stands.page; phase = subst (λ m. eval.RunsOrIsOver state.ended x.now m state) (pieces_alike state.base (calls nodes) machine_begun) stands.phase } in
     record {
       to = x.now;
       grown = x.grown;

@@ -1,5 +1,5 @@
 -- What the calls for a page's tree make: the list of the tree.
-use Rattle.rx_walk.proofs.Common.{◌≡◌, ◌∙◌, ℕ, List, [], ◌∷◌, ◌++◌, sym, ap, subst, append_assoc, append-nil, Chars, base_of, Call, Enter, Read, Leave, calls, Facts, with_facts, Context, Nodes, Numbering, begun_state, EvaluatorStands, StandsOn, Makes, no_numbers, State, tags_of, begun_stands, enter_stands, text_stands, finish_makes, Tree, singly, Steps, Leads, Lists, IsMade}
+use Rattle.rx_walk.proofs.Common.{◌≡◌, ◌∙◌, ℕ, List, [], ◌∷◌, ◌++◌, sym, ap, subst, append_assoc, append-nil, Chars, base_of, Call, Enter, Read, Leave, calls, Facts, with_facts, Context, Nodes, Numbering, begun_state, EvaluatorStands, StandsOn, Makes, no_numbers, State, tags_of, begun_stands, enter_stands, text_stands, finish_makes, Tree, singly, StepsByCall, Leads, Lists, IsMade}
 use Rattle.rx_terms.specs.declared.triples.Triple.{Triple as CodeTriple}
 use Rattle.rx_eval.proofs.EndLemmas.{left_stands}
 use Rattle.rx_eval.proofs.NameLemmas.{grown_same, grown_then}
@@ -8,7 +8,7 @@ use Rattle.rx_walk.proofs.Signed.{calls_tree}
 
 -- the state stands for the calls under a numbering that has grown
 
-pub one_on : (call : Call) (to : Numbering) (list : List Call) (old new : State) → Steps call old new → EvaluatorStands to list old → StandsOn to (list ++ call ∷ []) new
+pub one_on : (call : Call) (to : Numbering) (list : List Call) (old new : State) → StepsByCall call old new → EvaluatorStands to list old → StandsOn to (list ++ call ∷ []) new
 one_on (Enter facts) to list old new s st = enter_stands to list old facts new s.1 s.0.root s.0.drawn st
 one_on (Read chars) to list old new s st = record { now = to; grown = grown_same to; stands = subst (λ z. EvaluatorStands to (list ++ Read chars ∷ []) z) (sym s) (text_stands to list old chars st) }
 one_on Leave to list old new s st = left_stands to list old new s st
@@ -21,7 +21,7 @@ all_on (call ∷ list) before to old new h st =
     record { now = all.now; grown = grown_then to one.now all.now one.grown all.grown; stands = subst (λ l. EvaluatorStands all.now l new) (append_assoc before (call ∷ []) list) all.stands }
 
 -- the base stays, and an evaluator that answers has memory
-one_rest : (call : Call) (old new : State) → Steps call old new → (new.base ≡ old.base) × (new.out_of_memory ≡ old.out_of_memory)
+one_rest : (call : Call) (old new : State) → StepsByCall call old new → (new.base ≡ old.base) × (new.out_of_memory ≡ old.out_of_memory)
 one_rest (Enter facts) old new s = (s.1.rest.0, s.1.rest.6)
 one_rest (Read chars) old new s = (ap (λ (z : State). z.base) s, ap (λ (z : State). z.out_of_memory) s)
 one_rest Leave old new s = (s.rest.0, s.rest.5)

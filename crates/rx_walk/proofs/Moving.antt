@@ -1,5 +1,5 @@
 -- Where calls lead, and what they need.
-use Rattle.rx_walk.proofs.Common.{◌≡◌, ◌∙◌, ℕ, zero, suc, ◌+◌, ◌≤◌, ◌<◌, Bool, true, false, List, [], ◌∷◌, ◌++◌, length, refl, sym, ap, subst, Option, Some, None, arith, length-append, append_assoc, nat_tests, ◌==◌, nat_le, if◌then◌else◌, Chars, by_test, Call, Enter, Read, Leave, Facts, Opens, begun_state, read_text, Closes, State, Front, unbegun, inside, over, levels_of, Steps, Leads, Led, moves, within, move_all, MayBe, MayFollow}
+use Rattle.rx_walk.proofs.Common.{◌≡◌, ◌∙◌, ℕ, zero, suc, ◌+◌, ◌≤◌, ◌<◌, Bool, true, false, List, [], ◌∷◌, ◌++◌, length, refl, sym, ap, subst, Option, Some, None, arith, length-append, append_assoc, nat_tests, ◌==◌, nat_le, if◌then◌else◌, Chars, by_test, Call, Enter, Read, Leave, Facts, Opens, begun_state, read_text, Closes, State, Front, unbegun, inside, over, levels_of, StepsByCall, Leads, Led, moves, within, move_all, MayBe, MayFollow}
 use Rattle.rx_walk.proofs.Alike.{leads_then}
 
 pub none_moves : (levels : ℕ) (list : List Call) → move_all levels None list ≡ None
@@ -55,7 +55,7 @@ closed levels (inside (suc n)) next old new at c e =
     subst (λ f. StandsAt levels f new) is (record { frames = some; ended = c.ended ∙ ap (λ k. if k == 0 then true else old.ended) some ∙ (ap (λ b. if b then true else old.ended) (not_zero n) ∙ at.ended); levels_are = c.rest.1 ∙ at.levels_are })
 closed levels _ next old new at c e = absurd (cc)
 
-steps_at : (levels : ℕ) (call : Call) (front next : Front) (old new : State) → StandsAt levels front old → Steps call old new → moves front call ≡ Some next → StandsAt levels next new
+steps_at : (levels : ℕ) (call : Call) (front next : Front) (old new : State) → StandsAt levels front old → StepsByCall call old new → moves front call ≡ Some next → StandsAt levels next new
 steps_at levels (Enter facts) front next old new at s e = opened levels front next facts old new at s.1 e
 steps_at levels (Read chars) front next old new at s e = said_at levels front next chars old new at s e
 steps_at levels Leave front next old new at s e = closed levels front next old new at s e

@@ -1,18 +1,18 @@
 -- Signs one after another, and those of a tree.
-use Rattle.rx_walk.proofs.Common.{◌≡◌, ◌∙◌, List, [], ◌∷◌, ◌++◌, map, refl, sym, ap, append_assoc, Option, None, Chars, Call, Enter, Read, Leave, calls, facts, with_facts, Context, Tag, read_tag, tags_of, Fault, Tree, end, element, text, Sign, said, finished, signs_of, line_on, line_of, call_of, calls_of, singles, singly, said_line, tree_line, refused_in}
+use Rattle.rx_walk.proofs.Common.{◌≡◌, ◌∙◌, List, [], ◌∷◌, ◌++◌, map, refl, sym, ap, append_assoc, Option, None, Chars, Call, Enter, Read, Leave, calls, facts, with_facts, Context, ElementTag, read_tag, tags_of, Fault, Tree, end, element, text, Sign, said, finished, signs_of, line_on, line_of, call_of, calls_of, singles, singly, said_line, tree_line, refused_in}
 pub use Rattle.rx_walk.specs.RefusalLaws.{refused_append}
 
-pub calls_append : (context : Context) (line : List Tag) (xs ys : List Sign) → calls_of context line (xs ++ ys) ≡ calls_of context line xs ++ calls_of context (line_of line xs) ys
+pub calls_append : (context : Context) (line : List ElementTag) (xs ys : List Sign) → calls_of context line (xs ++ ys) ≡ calls_of context line xs ++ calls_of context (line_of line xs) ys
 calls_append context line [] ys = refl
 calls_append context line (x ∷ xs) ys = ap (λ l. call_of context line x ∷ l) (calls_append context (line_on line x) xs ys)
 
 -- text
 
-pub said_calls : (context : Context) (line : List Tag) (chars : Chars) → calls_of context line (map said chars) ≡ singles chars
+pub said_calls : (context : Context) (line : List ElementTag) (chars : Chars) → calls_of context line (map said chars) ≡ singles chars
 said_calls context line [] = refl
 said_calls context line (c ∷ chars) = ap (λ l. Read (c ∷ []) ∷ l) (said_calls context line chars)
 
-pub said_refused : (context : Context) (line : List Tag) (chars : Chars) → ◌≡◌ {A = Option Fault} (refused_in context line (map said chars)) None
+pub said_refused : (context : Context) (line : List ElementTag) (chars : Chars) → ◌≡◌ {A = Option Fault} (refused_in context line (map said chars)) None
 said_refused context line [] = refl
 said_refused context line (c ∷ chars) = said_refused context line chars
 
@@ -24,7 +24,7 @@ singly_append (Enter facts ∷ xs) ys = ap (λ l. Enter facts ∷ l) (singly_app
 singly_append (Read chars ∷ xs) ys = ap (λ l. singles chars ++ l) (singly_append xs ys) ∙ sym (append_assoc (singles chars) (singly xs) (singly ys))
 singly_append (Leave ∷ xs) ys = ap (λ l. Leave ∷ l) (singly_append xs ys)
 
-pub calls_tree : (context : Context) (line : List Tag) (tree : Tree) → calls_of context line (signs_of tree) ≡ singly (calls (with_facts context line (tags_of tree)))
+pub calls_tree : (context : Context) (line : List ElementTag) (tree : Tree) → calls_of context line (signs_of tree) ≡ singly (calls (with_facts context line (tags_of tree)))
 calls_tree context line end = refl
 calls_tree context line (text chars rest) =
     calls_append context line (map said chars) (signs_of rest)

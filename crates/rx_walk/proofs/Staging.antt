@@ -1,5 +1,5 @@
 -- What becomes of the stage.
-use Rattle.rx_walk.proofs.Common.{◌≡◌, ◌∙◌, ℕ, ◌<◌, Bool, true, false, List, [], ◌∷◌, ◌++◌, length, refl, sym, ap, subst, Option, Some, None, zero, suc, ◌+◌, drop, get_or, slice_get, add-one, arith, append_assoc, append-nil, if◌then◌else◌, Chars, base_by, Call, Enter, Leave, Facts, begun_state, read_text, State, singles, Seeking, known, Steps, Leads, Led, call_seen, queue_seen, MayBe, Known, MayTake, Tells, HeadGives, MayFollow, sought_seen}
+use Rattle.rx_walk.proofs.Common.{◌≡◌, ◌∙◌, ℕ, ◌<◌, Bool, true, false, List, [], ◌∷◌, ◌++◌, length, refl, sym, ap, subst, Option, Some, None, zero, suc, ◌+◌, drop, get_or, slice_get, add-one, arith, append_assoc, append-nil, if◌then◌else◌, Chars, base_by, Call, Enter, Leave, Facts, begun_state, read_text, State, singles, Seeking, known, StepsByCall, Leads, Led, call_seen, queue_seen, MayBe, Known, MayTake, Tells, HeadGives, MayFollow, sought_seen}
 use Rattle.rx_walk.specs.declared.calls.Call.{Call as CodeCall}
 use Rattle.rx_walk.specs.declared.origins.Origin.{Origin}
 use Rattle.rx_walk.specs.declared.stages.PendingBase.{PendingBase}
@@ -28,7 +28,7 @@ found_tells origin turn more old new stays h = record {
   staged = λ seeking list k. known_more origin.address origin.levels seeking (turn seeking) list more old new (λ href e. ap turn e ∙ stays href) h k;
 }
 
-pub found_one : (origin : Origin) (turn : Seeking → Seeking) (call : Call) (old new : State) → ((href : Option Chars) → turn (known href) ≡ known href) → Steps call old new → Tells origin turn (call ∷ []) (stage.Found old) (stage.Found new)
+pub found_one : (origin : Origin) (turn : Seeking → Seeking) (call : Call) (old new : State) → ((href : Option Chars) → turn (known href) ≡ known href) → StepsByCall call old new → Tells origin turn (call ∷ []) (stage.Found old) (stage.Found new)
 found_one origin turn call old new stays s = found_tells origin turn (call ∷ []) old new stays (new, s, refl)
 
 pub found_enters : (levels : ℕ) (facts : Facts) (state : State) → MayTake levels (Enter facts ∷ []) (stage.Found state) → (length state.frames < state.levels) × (state.ended ≡ false)

@@ -1,7 +1,7 @@
 -- The text that is kept is that of the outermost element that gathers.
 use Rattle.std.proofs.lemmas.List.{length-take-le}
-use Rattle.rx_walk.proofs.Common.{by_test, length-map, ◌≡◌, ◌∙◌, ℕ, suc, ◌+◌, ◌-◌, List, [], ◌∷◌, ◌++◌, map, length, take, refl, sym, ap, subst, arith, length-append, is_some, if◌then◌else◌, Chars, Context, Tag, gathers_some, begun_state, State, Frame, Sign, begun, said, finished, line_on, call_of, calls_of, sought, Steps, Leads, false, Some, Result, Ok, Err, IsOk, OnOk, Call, read_text, Seeking, Staged, state_of}
-use Rattle.rx_walk.specs.KeptTexts.{texts_on, texts_of, gathered_text, KeepsOneText}
+use Rattle.rx_walk.proofs.Common.{by_test, length-map, ◌≡◌, ◌∙◌, ℕ, suc, ◌+◌, ◌-◌, List, [], ◌∷◌, ◌++◌, map, length, take, refl, sym, ap, subst, arith, length-append, is_some, if◌then◌else◌, Chars, Context, ElementTag, gathers_some, begun_state, State, Frame, Sign, begun, said, finished, line_on, call_of, calls_of, sought, StepsByCall, Leads, false, Some, Result, Ok, Err, IsOk, OnOk, Call, read_text, Seeking, Staged, found_state}
+use Rattle.rx_walk.specs.KeptTexts.{texts_on, texts_after, gathered_text, KeepsOneText}
 use Rattle.rx_walk.proofs.Wholes.{known_at}
 use Rattle.rx_terms.specs.declared.texts.NoMemory.{NoMemory}
 use Rattle.rx_walk.specs.declared.stages.Stage.{Stage}
@@ -40,7 +40,7 @@ record Kept (state : State) (texts : List Chars) : Type 0 where
   many : length state.frames ≡ length texts
   kept : state.kept ≡ gathered_text state.frames texts
 
-one_kept : (context : Context) (line : List Tag) (texts : List Chars) (sign : Sign) (old new : State) → Steps (call_of context line sign) old new → Kept old texts → Kept new (texts_on texts sign)
+one_kept : (context : Context) (line : List ElementTag) (texts : List Chars) (sign : Sign) (old new : State) → StepsByCall (call_of context line sign) old new → Kept old texts → Kept new (texts_on texts sign)
 one_kept context line texts (begun t) old new s k =
     let o = s.1 in
     let size : length new.frames ≡ length old.frames + 1 = ap length o.pushed ∙ length-append old.frames (o.frame ∷ []) in
@@ -66,7 +66,7 @@ one_kept context line texts finished old new c k =
           ∙ with_less new.frames texts c.frame (omega (arith, size, k.many)));
     }
 
-all_kept : (context : Context) (line : List Tag) (texts : List Chars) (signs : List Sign) (old new : State) → Leads (calls_of context line signs) old new → Kept old texts → Kept new (texts_of texts signs)
+all_kept : (context : Context) (line : List ElementTag) (texts : List Chars) (signs : List Sign) (old new : State) → Leads (calls_of context line signs) old new → Kept old texts → Kept new (texts_after texts signs)
 all_kept context line texts [] old new h k = subst (λ z. Kept z texts) (sym h) k
 all_kept context line texts (sign ∷ signs) old new h k =
     all_kept context (line_on line sign) (texts_on texts sign) signs h.0 new h.2 (one_kept context line texts sign old h.0 h.1 k)
@@ -85,7 +85,7 @@ pub text_idle : (chars : Chars) (r : Result (Unit {0}) NoMemory) (old new : Stat
 text_idle chars (Ok done) old new k e s g = (k, read_idle chars old new e s g)
 text_idle chars (Err why) old new k e s g = absurd (cc)
 
-pub idle_at : (address : Chars) (levels : ℕ) (seeking : Seeking) (list : List Call) (x : Stage) (state : State) → Staged address levels seeking list x → state_of x ≡ Some state → gathers_some state.frames ≡ false → IsIdle x
+pub idle_at : (address : Chars) (levels : ℕ) (seeking : Seeking) (list : List Call) (x : Stage) (state : State) → Staged address levels seeking list x → found_state x ≡ Some state → gathers_some state.frames ≡ false → IsIdle x
 idle_at address levels seeking list (stage.Seeking head) state s e g = absurd (cc)
 idle_at address levels seeking list (stage.Found other) state s e g =
     let is : other ≡ state = cc in

@@ -2,7 +2,7 @@
 use Rattle.std.specs.Prelude.{◌≡◌, List, [], ◌++◌, None, Result}
 use Rattle.rx_rdfa.specs.Common.{Context, Stop}
 use Rattle.rx_names.specs.Lines as names
-use Rattle.rx_names.specs.Lines.{Kept}
+use Rattle.rx_names.specs.Lines.{KeptNames}
 use Rattle.rx_nest.specs.Fronts.{IsFront}
 use Rattle.rx_nest.specs.Signs.{Sign}
 use Rattle.rx_nest.specs.Listening.{Hears}
@@ -13,7 +13,7 @@ use Rattle.rx_walk.specs.Settings.{Setting, way_of}
 use Rattle.rx_walk.specs.Courses.{AllAbsolute}
 
 -- Nothing is refused in these signs, and the names in force are those of the elements that they leave open.
-pub record Accepts (context : Context) (kept : Kept) (signs : List Sign) : Type 0 where
+pub record Accepts (context : Context) (kept : KeptNames) (signs : List Sign) : Type 0 where
   pub names_are : names.NamesStand kept (line_of [] signs)
   pub context_is : kept.context ≡ context
   pub absolute : AllAbsolute (line_of [] signs)
@@ -24,8 +24,8 @@ abbrev pub accepts_at : Setting → CheckingListener → List Sign → Type 0
 accepts_at setting scope signs = Accepts setting.context scope.names signs
 
 -- what becomes of a check's names with these signs, or which of them is refused
-abbrev pub HearsOn : CheckingListener → List Sign → Result (Unit {0}) Stop → CheckingListener → Type 0
-HearsOn old more result new =
+abbrev pub CheckHears : CheckingListener → List Sign → Result (Unit {0}) Stop → CheckingListener → Type 0
+CheckHears old more result new =
     (setting : Setting) (signs : List Sign) → accepts_at setting old signs
     → Hears (way_of setting).refused (accepts_at setting) signs more result new
 

@@ -6,7 +6,7 @@ use Rattle.rx_scan.specs.Steps.{is_quiet}
 use Rattle.rx_nest.specs.Nests.{IsBetween}
 use Rattle.rx_nest.specs.Signs.{signs_of}
 use Rattle.rx_nest.specs.Readings as readings
-use Rattle.rx_nest.specs.Readings.{Read, Unfinished}
+use Rattle.rx_nest.specs.Readings.{EndsWithinPage, Read}
 use Rattle.rx_walk.specs.declared.scopes.CheckingListener.{CheckingListener}
 use Rattle.rx_walk.specs.Refused.{refused_in}
 use Rattle.rx_walk.specs.Settings.{Setting, way_of}
@@ -21,13 +21,13 @@ abbrev pub CheckStands : Setting → Checked → List ℕ → Type 0
 CheckStands setting check bytes = readings.ReadingStands (way_of setting) (accepts_at setting) check bytes
 
 -- Between two tokens a piece without `<` and `&` wants no memory.
-abbrev pub TakesQuietly : Checked → List ℕ → Result (Unit {0}) Stop → Type 0
-TakesQuietly check piece result =
+abbrev pub ChecksQuietly : Checked → List ℕ → Result (Unit {0}) Stop → Type 0
+ChecksQuietly check piece result =
     (setting : Setting) (bytes : List ℕ) → CheckStands setting check bytes
     → IsBetween setting.syntax setting.limits bytes → is_quiet piece ≡ true → IsNoMemory result ≡ false
 
-abbrev pub FeedGives : Setting → List ℕ → List ℕ → Result (Unit {0}) Stop → Checked → Type 0
-FeedGives setting bytes piece result new = readings.FeedGives (way_of setting) (accepts_at setting) bytes piece result new
+abbrev pub CheckFeedGives : Setting → List ℕ → List ℕ → Result (Unit {0}) Stop → Checked → Type 0
+CheckFeedGives setting bytes piece result new = readings.FeedGives (way_of setting) (accepts_at setting) bytes piece result new
 
 -- The bytes are a page of which no start tag is refused.
 pub record Accepted (setting : Setting) (bytes : List ℕ) : Type 0 where
@@ -35,6 +35,6 @@ pub record Accepted (setting : Setting) (bytes : List ℕ) : Type 0 where
   pub page : Page setting.syntax setting.limits bytes tree
   pub accepted : refused_in setting.context [] (signs_of tree) ≡ None
 
-abbrev pub EndGives : Setting → List ℕ → Result (Unit {0}) Stop → Type 0
-EndGives setting bytes (Ok done) = Accepted setting bytes
-EndGives setting bytes (Err why) = Unfinished (way_of setting) bytes why
+abbrev pub CheckEndGives : Setting → List ℕ → Result (Unit {0}) Stop → Type 0
+CheckEndGives setting bytes (Ok done) = Accepted setting bytes
+CheckEndGives setting bytes (Err why) = EndsWithinPage (way_of setting) bytes why

@@ -4,7 +4,7 @@ use Rattle.rx_terms.specs.Text.{Chars}
 use Rattle.rx_nest.specs.Signs.{Sign, begun, said, finished}
 use Rattle.rx_eval.specs.States.{State, Frame}
 use Rattle.rx_walk.specs.Settings.{Setting}
-use Rattle.rx_walk.specs.Walks.{Walked, WalkStands, state_of}
+use Rattle.rx_walk.specs.Walks.{Walked, WalkStands, found_state}
 
 -- the text so far of each open element, the outermost first
 abbrev pub texts_on : List Chars → Sign → List Chars
@@ -12,9 +12,9 @@ texts_on texts (begun t) = texts ++ [] ∷ []
 texts_on texts (said c) = map (λ text. text ++ c ∷ []) texts
 texts_on texts finished = take (length texts - 1) texts
 
-abbrev pub texts_of : List Chars → List Sign → List Chars
-texts_of texts [] = texts
-texts_of texts (sign ∷ signs) = texts_of (texts_on texts sign) signs
+abbrev pub texts_after : List Chars → List Sign → List Chars
+texts_after texts [] = texts
+texts_after texts (sign ∷ signs) = texts_after (texts_on texts sign) signs
 
 -- the text of the outermost element that gathers it, and none where no element does
 abbrev pub gathered_text : List Frame → List Chars → Chars
@@ -26,4 +26,4 @@ gathered_text (frame ∷ frames) (text ∷ texts) = if is_some frame.text then t
 -- where none gathers, no text is kept
 abbrev pub KeepsOneText : Type 0
 KeepsOneText = (setting : Setting) (address : Chars) (walk : Walked) (bytes : List ℕ) (s : WalkStands setting address walk bytes) (state : State)
-    → state_of walk.listener.stage ≡ Some state → state.kept ≡ gathered_text state.frames (texts_of [] s.goes.signs)
+    → found_state walk.listener.stage ≡ Some state → state.kept ≡ gathered_text state.frames (texts_after [] s.goes.signs)

@@ -8,15 +8,15 @@ use Rattle.rx_eval.specs.States.{State}
 use Rattle.rx_walk.specs.CallsOf.{singly}
 
 -- a call's step; an element may begin where the root hasn't ended, and there are levels and numbers for one more
-abbrev pub Steps : Call → State → State → Type 0
-Steps (Enter facts) old new = MayOpen old facts × Opens old facts new
-Steps (Read chars) old new = new ≡ read_text chars old
-Steps Leave old new = Closes old new
+abbrev pub StepsByCall : Call → State → State → Type 0
+StepsByCall (Enter facts) old new = MayOpen old facts × Opens old facts new
+StepsByCall (Read chars) old new = new ≡ read_text chars old
+StepsByCall Leave old new = Closes old new
 
 -- one call after another leads there
 abbrev pub Leads : List Call → State → State → Type 0
 Leads [] old new = new ≡ old
-Leads (call ∷ list) old new = (next : State) × Steps call old next × Leads list next new
+Leads (call ∷ list) old new = (next : State) × StepsByCall call old next × Leads list next new
 
 -- from the state before the root
 pub record Led (base : Chars) (levels : ℕ) (list : List Call) (state : State) : Type 0 where

@@ -1,7 +1,7 @@
 -- What a walk stands for, and what its calls answer of a page's bytes.
 use Rattle.std.specs.Prelude.{◌≡◌, ◌≢◌, ◌↔◌, is_some, ◌≤◌, ◌||◌, ◌==◌, ℕ, true, false, List, [], map, length, Option, Some, None, Result, Ok, Err, if◌then◌else◌}
-use Rattle.rx_rdfa.specs.Common.{Chars, triples_seen, Page, StartTag, Tree, end, element, base_of, with_facts, Context, Tag, Stop, read_tag, tags_of}
-use Rattle.rx_grammar.specs.Common.{Entry, Line, Phase}
+use Rattle.rx_rdfa.specs.Common.{Chars, triples_seen, Page, StartTag, Tree, end, element, base_of, with_facts, Context, ElementTag, Stop, read_tag, tags_of}
+use Rattle.rx_grammar.specs.Common.{Line, Phase, PlacedCharacter}
 use Rattle.rx_terms.specs.declared.triples.Triple.{Triple as CodeTriple}
 use Rattle.rx_scan.specs.Entries.{IsNoMemory}
 use Rattle.rx_scan.specs.Steps.{is_quiet}
@@ -10,13 +10,13 @@ use Rattle.rx_nest.specs.Nests.{IsBetween}
 use Rattle.rx_nest.specs.Signs.{signs_of}
 use Rattle.rx_nest.specs.ShownLines.{shown_line}
 use Rattle.rx_nest.specs.Readings as readings
-use Rattle.rx_nest.specs.Readings.{Read, Unfinished, has_failed}
+use Rattle.rx_nest.specs.Readings.{EndsWithinPage, Read, has_failed}
 use Rattle.rx_eval.specs.Numbering.{Numbering}
 use Rattle.rx_eval.specs.Standing.{Makes}
 use Rattle.rx_eval.specs.Keeping.{gathers_some}
 use Rattle.rx_eval.specs.Opened.{handed_on}
 use Rattle.rx_eval.specs.States.{State}
-use Rattle.rx_eval.specs.Waits.{Shows}
+use Rattle.rx_eval.specs.Waits.{ShowsContext}
 use Rattle.rx_eval.specs.declared.inherited.Inherited.{Inherited}
 use Rattle.rx_walk.specs.declared.courses.RdfaListener.{RdfaListener}
 use Rattle.rx_walk.specs.declared.stages.Stage.{Stage}
@@ -26,15 +26,15 @@ use Rattle.rx_walk.specs.CallsOf.{calls_of}
 use Rattle.rx_walk.specs.Refused.{refused_in}
 use Rattle.rx_walk.specs.Settings.{Setting, way_of}
 use Rattle.rx_walk.specs.Leading.{Led}
-use Rattle.rx_walk.specs.Courses.{Runs, runs_at}
+use Rattle.rx_walk.specs.Courses.{CourseStands, runs_at}
 
 -- the page's elements as they are read, what is known of them, the fault that was answered, and want of memory
 abbrev pub Walked : Type 0
 Walked = Read RdfaListener
 
-abbrev pub state_of : Stage → Option State
-state_of (stage.Seeking head) = None
-state_of (stage.Found state) = Some state
+abbrev pub found_state : Stage → Option State
+found_state (stage.Seeking head) = None
+found_state (stage.Found state) = Some state
 
 -- The walk stands for these bytes of the page at an address: its elements were told, and nothing is due.
 abbrev pub WalkStands : Setting → Chars → Walked → List ℕ → Type 0
@@ -45,13 +45,13 @@ abbrev pub WhereStands : Walked → (Setting → Chars → List ℕ → Type 0) 
 WhereStands walk holds = (setting : Setting) (address : Chars) (bytes : List ℕ) → WalkStands setting address walk bytes → holds setting address bytes
 
 -- what holds of the open elements that the tree shows, as RDFa reads them, the innermost first
-abbrev pub OverOpen : Setting → List ℕ → (List Tag → Type 0) → Type 0
-OverOpen setting bytes holds = (line : Line) (phase : Phase) (run : List Entry) (part : List ℕ)
+abbrev pub OverOpen : Setting → List ℕ → (List ElementTag → Type 0) → Type 0
+OverOpen setting bytes holds = (line : Line) (phase : Phase) (run : List PlacedCharacter) (part : List ℕ)
     → IsUnderway setting.syntax setting.limits bytes line phase run part → holds (map read_tag (shown_line setting.syntax line))
 
 -- so many frames are open as there are such elements, once the evaluator is at work
-abbrev pub FramesFit : Walked → List Tag → Type 0
-FramesFit walk line = (state : State) → state_of walk.listener.stage ≡ Some state → length state.frames ≡ length line
+abbrev pub FramesFit : Walked → List ElementTag → Type 0
+FramesFit walk line = (state : State) → found_state walk.listener.stage ≡ Some state → length state.frames ≡ length line
 
 -- that many elements are open, by the grammar and in the evaluator
 abbrev pub DepthGives : Walked → ℕ → Type 0
@@ -59,7 +59,7 @@ DepthGives walk depth =
     WhereStands walk (λ setting address bytes. OverOpen setting bytes (λ line. (depth ≡ length line) × FramesFit walk line))
 
 -- a bound that the line of open elements gives
-abbrev pub IsBoundedBy : Walked → (List Tag → ℕ) → ℕ → Type 0
+abbrev pub IsBoundedBy : Walked → (List ElementTag → ℕ) → ℕ → Type 0
 IsBoundedBy walk most count = WhereStands walk (λ setting address bytes. OverOpen setting bytes (λ line. count ≤ most line))
 
 -- Between two tokens a piece without `<` and `&` wants no memory, where the base is known and no open element gathers its
@@ -68,11 +68,11 @@ abbrev pub TakesQuietly : Walked → List ℕ → Result (Unit {0}) Stop → Typ
 TakesQuietly walk piece result =
     (setting : Setting) (address : Chars) (bytes : List ℕ) → WalkStands setting address walk bytes
     → IsBetween setting.syntax setting.limits bytes → is_quiet piece ≡ true
-    → (state : State) → state_of walk.listener.stage ≡ Some state → gathers_some state.frames ≡ false
+    → (state : State) → found_state walk.listener.stage ≡ Some state → gathers_some state.frames ≡ false
     → IsNoMemory result ≡ false
 
-abbrev pub FeedGives : Setting → Chars → List ℕ → List ℕ → Result (Unit {0}) Stop → Walked → Type 0
-FeedGives setting address bytes piece result new = readings.FeedGives (way_of setting) (runs_at (setting, address)) bytes piece result new
+abbrev pub WalkFeedGives : Setting → Chars → List ℕ → List ℕ → Result (Unit {0}) Stop → Walked → Type 0
+WalkFeedGives setting address bytes piece result new = readings.FeedGives (way_of setting) (runs_at (setting, address)) bytes piece result new
 
 -- the list is what an evaluator has after the calls for a whole page
 pub record Lists (context : Context) (address : Chars) (levels : ℕ) (tree : Tree) (list : List CodeTriple) : Type 0 where
@@ -85,17 +85,17 @@ pub record Lists (context : Context) (address : Chars) (levels : ℕ) (tree : Tr
 abbrev pub ListsPage : RdfaListener → List CodeTriple → Type 0
 ListsPage course list =
     (context : Context) (address : Chars) (levels : ℕ) (root : StartTag) (inside : Tree)
-    → Runs context address levels course (signs_of (element root inside end))
+    → CourseStands context address levels course (signs_of (element root inside end))
     → Lists context address levels (element root inside end) list
 
 -- the course stands for a whole page
-pub record IsWhole (course : RdfaListener) : Type 0 where
+pub record CourseIsWhole (course : RdfaListener) : Type 0 where
   pub context : Context
   pub address : Chars
   pub levels : ℕ
   pub root : StartTag
   pub inside : Tree
-  pub runs : Runs context address levels course (signs_of (element root inside end))
+  pub runs : CourseStands context address levels course (signs_of (element root inside end))
 
 -- under some numbering, one to one, the list is what RDFa's rules make of the tree
 pub record IsMade (context : Context) (address : Chars) (tree : Tree) (list : List CodeTriple) : Type 0 where
@@ -104,24 +104,24 @@ pub record IsMade (context : Context) (address : Chars) (tree : Tree) (list : Li
 
 -- The bytes are a page of which nothing is refused, and the list is what an evaluator with the page's base has after the
 -- calls for its tree.
-pub record Ended (setting : Setting) (address : Chars) (bytes : List ℕ) (list : List CodeTriple) : Type 0 where
+pub record WalkEnded (setting : Setting) (address : Chars) (bytes : List ℕ) (list : List CodeTriple) : Type 0 where
   pub tree : Tree
   pub page : Page setting.syntax setting.limits bytes tree
   pub accepted : refused_in setting.context [] (signs_of tree) ≡ None
   pub lists : Lists setting.context address setting.limits.depth tree list
   pub made : IsMade setting.context address tree list
 
-abbrev pub EndGives : Setting → Chars → List ℕ → Result (List CodeTriple) Stop → Type 0
-EndGives setting address bytes (Ok list) = Ended setting address bytes list
-EndGives setting address bytes (Err why) = Unfinished (way_of setting) bytes why
+abbrev pub WalkEndGives : Setting → Chars → List ℕ → Result (List CodeTriple) Stop → Type 0
+WalkEndGives setting address bytes (Ok list) = WalkEnded setting address bytes list
+WalkEndGives setting address bytes (Err why) = EndsWithinPage (way_of setting) bytes why
 
 -- the evaluator's state, where an element is open in it
 abbrev pub state_open : Walked → Option State
-state_open walk = if has_failed walk || walk.listener.count == 0 then None else state_of walk.listener.stage
+state_open walk = if has_failed walk || walk.listener.count == 0 then None else found_state walk.listener.stage
 
 -- what is shown is what a child of the innermost open element inherits
 abbrev pub ShowsOpen : Walked → Inherited → Type 0
-ShowsOpen walk shown = (state : State) × (state_open walk ≡ Some state) × Shows shown (handed_on state.page state.frames)
+ShowsOpen walk shown = (state : State) × (state_open walk ≡ Some state) × ShowsContext shown (handed_on state.page state.frames)
 
 -- the base of the page that begins with the bytes is known, by the bytes alone
 pub record HasBase (setting : Setting) (bytes : List ℕ) : Type 0 where

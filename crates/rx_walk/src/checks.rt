@@ -49,9 +49,9 @@ impl Check {
     /// unfinished, whatever elements are open. After a fault or want of memory it answers the same again, and changes nothing.
     pub fn feed(&mut self, piece: &[u8]) -> Result<(), Stop>
         ensures gives { (setting : Setting) (bytes : List ℕ) → checks.CheckStands setting self.old bytes
-            → checks.FeedGives setting bytes piece.now result self.new }
+            → checks.CheckFeedGives setting bytes piece.now result self.new }
         ensures place { (setting : Setting) (bytes : List ℕ) → checks.CheckStands setting self.old bytes → PlaceGives (way_of setting) bytes piece.now result }
-        ensures quiet { checks.TakesQuietly self.old piece.now result }
+        ensures quiet { checks.ChecksQuietly self.old piece.now result }
         ensures asked { MayAnswer self.old.failed self.old.out_of_memory result }
         ensures keeps { Answered result self.new.failed self.new.out_of_memory }
         ensures stays { has_failed self.old ≡ true → self.new ≡ self.old }
@@ -62,7 +62,7 @@ impl Check {
     /// The page's end: whether the bytes are a page of which no start tag is refused. `Unended` comes exactly where they are no
     /// page and no earlier fault stands in them.
     pub fn finish(self) -> Result<(), Stop>
-        ensures gives { (setting : Setting) (bytes : List ℕ) → checks.CheckStands setting self bytes → checks.EndGives setting bytes result }
+        ensures gives { (setting : Setting) (bytes : List ℕ) → checks.CheckStands setting self bytes → checks.CheckEndGives setting bytes result }
         ensures asked { MayAnswer self.failed self.out_of_memory result }
         ensures memory { result ≡ Err Stop.NoMemory → self.out_of_memory ≡ true }
     {

@@ -2,11 +2,10 @@
 ghost use Rattle.std.specs.Prelude.{◌≡◌, ◌<◌, ◌+◌, ◌∷◌, [], false, map, OnOk, IfOk, IsOk};
 ghost use Rattle.rx_rdfa.specs.Common.{chars, is_relative, Chars};
 ghost use Rattle.rx_names.specs.Lines as lines;
-ghost use Rattle.rx_names.specs.Tags.{tag_of};
 ghost use Rattle.rx_nest.specs.Nests.{tag_shown};
 ghost use Rattle.rx_nest.specs.Signs.{begun, said, finished};
 ghost use Rattle.rx_walk.specs.Quiets.{IsIdle};
-ghost use Rattle.rx_walk.specs.Courses.{Runs, runs_at, way_at, AreFacts, MayHear, HearsOn};
+ghost use Rattle.rx_walk.specs.Courses.{CourseStands, runs_at, way_at, AreFacts, CourseMayHear, HearsOn};
 ghost use Rattle.rx_curie.specs.Given.{own_vocabulary};
 ghost use Rattle.rx_walk.specs.RefusalLaws.{refusal_laws};
 ghost use Rattle.rx_walk.specs.Settings.{Setting};
@@ -66,7 +65,7 @@ impl RdfaListener {
         address: Iri,
         levels: u32,
     ) -> Result<RdfaListener, NoMemory>
-        ensures { IfOk result (λ course. Runs context address levels course []) }
+        ensures { IfOk result (λ course. CourseStands context address levels course []) }
     {
         let names = Names::new(alloc, context, levels)?;
         let maker = IriMaker::new(alloc)?;
@@ -90,7 +89,7 @@ impl RdfaListener {
     // It stands apart, so that texts and ends, which are told here too, need no room for what a tag says.
     #[inline(never)]
     fn begin(&mut self, tag: &Tag<'_>) -> Result<(), Stop>
-        requires { MayHear self.old (begun (tag_shown tag.now) ∷ []) }
+        requires { CourseMayHear self.old (begun (tag_shown tag.now) ∷ []) }
         ensures { HearsOn self.old (begun (tag_shown tag.now) ∷ []) result self.new }
     {
         let attributes = Attributes::of(tag);
@@ -106,7 +105,7 @@ impl RdfaListener {
     }
 
     fn text(&mut self, text: &str) -> Result<(), Stop>
-        requires { MayHear self.old (map said (chars text.now)) }
+        requires { CourseMayHear self.old (map said (chars text.now)) }
         ensures hears { HearsOn self.old (map said (chars text.now)) result self.new }
         ensures quiet { IsIdle self.old.stage → IsOk result × IsIdle self.new.stage }
     {
@@ -115,7 +114,7 @@ impl RdfaListener {
     }
 
     fn finish(&mut self) -> Result<(), Stop>
-        requires { MayHear self.old (finished ∷ []) }
+        requires { CourseMayHear self.old (finished ∷ []) }
         ensures { HearsOn self.old (finished ∷ []) result self.new }
     {
         self.stage.finish(&self.origin, self.count)?;

@@ -4,7 +4,7 @@
 ghost use Rattle.rx_walk.specs.CallsOf.{CallsOfTree, PiecesAreAlike};
 ghost use Rattle.rx_walk.specs.Leading.{PiecesLeadAlike};
 ghost use Rattle.rx_walk.specs.KeptTexts.{KeepsOneText};
-ghost use Rattle.rx_walk.specs.Numberings.{IsNumbered, ListIsNumbered, NumbersGrow};
+ghost use Rattle.rx_walk.specs.Numberings.{ListIsNumbered, NumbersGrow, WalkIsNumbered};
 
 mod calls;
 mod checks;
@@ -45,7 +45,7 @@ pub fn walks_keep_one_text()
 /// Once a page's base is known, there is one numbering of blank nodes, one to one, under which a walk's triples so far and
 /// what it shows of its innermost open element are what the rules say of the elements that were read.
 pub fn walks_are_numbered()
-    ensures { IsNumbered }
+    ensures { WalkIsNumbered }
 {}
 
 /// With the bytes of a page a numbering only grows: what has a number keeps it, whatever a walk is fed.

@@ -1,12 +1,13 @@
 //! The names in force at the open elements of a page that is checked.
 ghost use Rattle.std.specs.Prelude.{◌≡◌, ◌∷◌, [], false, None};
 ghost use Rattle.rx_rdfa.specs.Refusals.{is_relative};
-ghost use Rattle.rx_names.specs.Tags.{tag_of};
+ghost use Rattle.rx_tags.specs.Seen.{tag_seen};
+ghost use Rattle.rx_rdfa.specs.Pages.{token_tag};
 ghost use Rattle.rx_curie.specs.Given.{own_vocabulary};
 ghost use Rattle.rx_nest.specs.Nests.{tag_shown};
 ghost use Rattle.rx_nest.specs.Signs.{begun, finished};
 ghost use Rattle.rx_nest.specs.Listening.{MayHear};
-ghost use Rattle.rx_walk.specs.Accepting.{AcceptsOn, HearsOn, accepts_at};
+ghost use Rattle.rx_walk.specs.Accepting.{AcceptsOn, CheckHears, accepts_at};
 ghost use Rattle.rx_walk.specs.Courses.{BelowLine};
 ghost use Rattle.rx_walk.specs.Refused.{refused_at};
 ghost use Rattle.rx_walk.specs.RefusalLaws.{refusal_laws};
@@ -24,9 +25,9 @@ pub(crate) struct CheckingListener {
 
 /// The fault for which the start tag is refused, which has these attributes and its declarations among the names.
 pub(crate) fn fault_of(tag: &Tag<'_>, attributes: &Attributes<'_>, names: &Names) -> Option<Fault>
-    requires { attributes.now ≡ tag_of tag.now }
-    ensures line { BelowLine names.now (tag_of tag.now) (λ above. result ≡ refused_at names.now.context above (begun (tag_shown tag.now))) }
-    ensures own { result ≡ None → is_relative (own_vocabulary (tag_of tag.now)) ≡ false }
+    requires { attributes.now ≡ token_tag (tag_seen tag.now) }
+    ensures line { BelowLine names.now (token_tag (tag_seen tag.now)) (λ above. result ≡ refused_at names.now.context above (begun (tag_shown tag.now))) }
+    ensures own { result ≡ None → is_relative (own_vocabulary (token_tag (tag_seen tag.now))) ≡ false }
 {
     match refusal_below(attributes, &names.view()) {
         Some(kind) => Some(Fault {
@@ -40,7 +41,7 @@ pub(crate) fn fault_of(tag: &Tag<'_>, attributes: &Attributes<'_>, names: &Names
 
 impl CheckingListener {
     fn begin(&mut self, tag: &Tag<'_>) -> Result<(), Stop>
-        ensures { HearsOn self.old (begun (tag_shown tag.now) ∷ []) result self.new }
+        ensures { CheckHears self.old (begun (tag_shown tag.now) ∷ []) result self.new }
     {
         let attributes = Attributes::of(tag);
         self.names.push_of(&attributes)?;

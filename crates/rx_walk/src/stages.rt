@@ -2,7 +2,8 @@
 ghost use Rattle.std.specs.Prelude.{◌≡◌, [], ◌∷◌, ◌++◌, IsOk, OnOk};
 ghost use Rattle.rx_rdfa.specs.Common.{chars, Enter, Leave};
 ghost use Rattle.rx_curie.specs.Seen.{facts_seen};
-ghost use Rattle.rx_names.specs.Tags.{tag_of};
+ghost use Rattle.rx_tags.specs.Seen.{tag_seen};
+ghost use Rattle.rx_rdfa.specs.Pages.{token_tag};
 ghost use Rattle.rx_walk.specs.CallsOf.{singles};
 ghost use Rattle.rx_base.specs.Seekings.{seek_begun, seek_finished};
 ghost use Rattle.rx_walk.specs.Quiets.{IsIdle};
@@ -54,7 +55,7 @@ impl PendingBase {
         facts: &mut Facts,
     ) -> Result<Option<Eval>, NoMemory>
         requires { MayBe origin.now.levels (queue_seen self.old.queue.items ++ Enter (facts_seen facts.old) ∷ []) }
-        ensures { PendingTells origin.now (λ seeking. seek_begun count seeking (tag_of tag.now)) (Enter (facts_seen facts.old) ∷ []) self.old result self.new }
+        ensures { PendingTells origin.now (λ seeking. seek_begun count seeking (token_tag (tag_seen tag.now))) (Enter (facts_seen facts.old) ∷ []) self.old result self.new }
     {
         // The queue keeps them, and the next tag is read into others.
         let kept = mem::replace(facts, Facts::none());
@@ -95,7 +96,7 @@ impl Stage {
         facts: &mut Facts,
     ) -> Result<(), NoMemory>
         requires { MayTake origin.now.levels (Enter (facts_seen facts.old) ∷ []) self.old }
-        ensures { OnOk result (Tells origin.now (λ seeking. seek_begun count seeking (tag_of tag.now)) (Enter (facts_seen facts.old) ∷ []) self.old self.new) }
+        ensures { OnOk result (Tells origin.now (λ seeking. seek_begun count seeking (token_tag (tag_seen tag.now))) (Enter (facts_seen facts.old) ∷ []) self.old self.new) }
     {
         match self {
             Stage::Found(eval) => enter(eval, facts),
@@ -114,7 +115,7 @@ impl Stage {
         facts: &mut Facts,
     ) -> Result<(), NoMemory>
         requires { MayTake origin.now.levels (Enter (facts_seen facts.old) ∷ []) self.old }
-        ensures { OnOk result (Tells origin.now (λ seeking. seek_begun count seeking (tag_of tag.now)) (Enter (facts_seen facts.old) ∷ []) self.old self.new) }
+        ensures { OnOk result (Tells origin.now (λ seeking. seek_begun count seeking (token_tag (tag_seen tag.now))) (Enter (facts_seen facts.old) ∷ []) self.old self.new) }
     {
         let known = match self {
             Stage::Found(eval) => return enter(eval, facts),

@@ -34,7 +34,7 @@ impl Model for Walk {
 
 /// The list of a whole page. It takes no memory: the evaluator of a walk has always had what it asked for.
 fn list_of(course: RdfaListener) -> TripleList
-    requires { walks.IsWhole course }
+    requires { walks.CourseIsWhole course }
     ensures { walks.ListsPage course result }
 {
     let RdfaListener {
@@ -77,7 +77,7 @@ impl Walk {
     /// without `<` and `&` then never wants memory where no token is unfinished. After a fault or want of memory it answers the
     /// same again, and changes nothing.
     pub fn feed(&mut self, piece: &[u8]) -> Result<(), Stop>
-        ensures gives { walks.WhereStands self.old (λ setting address bytes. walks.FeedGives setting address bytes piece.now result self.new) }
+        ensures gives { walks.WhereStands self.old (λ setting address bytes. walks.WalkFeedGives setting address bytes piece.now result self.new) }
         ensures place { walks.WhereStands self.old (λ setting address bytes. PlaceGives (way_of setting) bytes piece.now result) }
         ensures quiet { walks.TakesQuietly self.old piece.now result }
         ensures asked { MayAnswer self.old.failed self.old.out_of_memory result }
@@ -90,7 +90,7 @@ impl Walk {
     /// The page's end: the list of its triples. `Unended` comes exactly where the bytes are no page and no earlier fault stands
     /// in them. It takes no memory: want of memory is answered only where it was before.
     pub fn finish(self) -> Result<TripleList, Stop>
-        ensures gives { walks.WhereStands self (λ setting address bytes. walks.EndGives setting address bytes result) }
+        ensures gives { walks.WhereStands self (λ setting address bytes. walks.WalkEndGives setting address bytes result) }
         ensures asked { MayAnswer self.failed self.out_of_memory result }
         ensures memory { result ≡ Err Stop.NoMemory → self.out_of_memory ≡ true }
     {

@@ -1,4 +1,4 @@
-use Rattle.rx_notation.proofs.Common.{◌≡◌, ℕ, ◌+◌, ◌<◌, true, List, [], ◌∷◌, ◌++◌, map, codes, refl, sym, subst, true≢false, arith, Chars, IsIri, decimal_digit, Triple, iri_text, Prefix, is_prefix_name, is_local_name, Full, Short, Named, Labelled, Type_of, Suffix, Bare, Language, Datatype, IriOrLabel, Single, Predicate, Done, Document, are_flat, Terminal, At_prefix, Small_a, Full_stop, Semicolon_sign, Comma_sign, Left_bracket, Right_bracket, Brackets, Left_parenthesis, Right_parenthesis, Parentheses, Token, terminal, declared, iri_or_label, quoted, document_tokens, terminal_text, SpellsSuffix, SpellsToken, is_gap, SpellsTokens, names_differ, Spells, are_known, Turtle}
+use Rattle.rx_notation.proofs.Common.{◌≡◌, ℕ, ◌+◌, ◌<◌, true, List, [], ◌∷◌, ◌++◌, map, codes, refl, sym, subst, true≢false, arith, Chars, IsIri, decimal_digit, Triple, iri_text, Prefix, is_prefix_name, is_local_name, Full, Short, Named, Labelled, Type_of, Suffix, Bare, Language, Datatype, IriOrLabel, Single, Predicate, Done, TurtleDocument, are_flat, Terminal, At_prefix, Small_a, Full_stop, Semicolon_sign, Comma_sign, Left_bracket, Right_bracket, Brackets, Left_parenthesis, Right_parenthesis, Parentheses, TurtleToken, terminal, declared, iri_or_label, quoted, document_tokens, terminal_text, SpellsSuffix, SpellsToken, is_spacing, SpellsTokens, names_differ, SpellsTurtle, are_known, Turtle}
 use Rattle.rx_nquads.specs.Spelling.{SpellsLabel, SpellsString, nothing, itself, escaped}
 use Rattle.rx_nquads.proofs.Denoting.{label_spelled}
 use Rattle.rx_notation.specs.Rows.{v, schema}
@@ -10,41 +10,41 @@ use Rattle.rx_notation.proofs.texts_hold.Goals as goal
 
 -- ---- a token, a gap and more
 
-say : (gap text : Chars) (t : Token) {a : Chars} {f : List Token → List Token} → is_gap gap ≡ true → SpellsToken text t → Puts a f → Puts (text ++ (gap ++ a)) (λ ts. t ∷ f ts)
+say : (gap text : Chars) (t : TurtleToken) {a : Chars} {f : List TurtleToken → List TurtleToken} → is_spacing gap ≡ true → SpellsToken text t → Puts a f → Puts (text ++ (gap ++ a)) (λ ts. t ∷ f ts)
 say gap text t g h rest = puts_then (puts_token text t h) (adds_gap gap g rest)
 
-mark : (s : Terminal) {a : Chars} {f : List Token → List Token} → Puts a f → Puts (terminal_text s ++ (codes " " ++ a)) (λ ts. terminal s ∷ f ts)
+mark : (s : Terminal) {a : Chars} {f : List TurtleToken → List TurtleToken} → Puts a f → Puts (terminal_text s ++ (codes " " ++ a)) (λ ts. terminal s ∷ f ts)
 mark s rest = say (codes " ") (terminal_text s) (terminal s) refl refl rest
 
 stop : Puts (codes ".") (λ ts. terminal Full_stop ∷ ts)
 stop = puts_token (codes ".") (terminal Full_stop) refl
 
 -- a full stop, and a gap behind it
-stop_then : (gap : Chars) {a : Chars} {f : List Token → List Token} → is_gap gap ≡ true → Puts a f → Puts (codes "." ++ (gap ++ a)) (λ ts. terminal Full_stop ∷ f ts)
+stop_then : (gap : Chars) {a : Chars} {f : List TurtleToken → List TurtleToken} → is_spacing gap ≡ true → Puts a f → Puts (codes "." ++ (gap ++ a)) (λ ts. terminal Full_stop ∷ f ts)
 stop_then gap g rest = say gap (codes ".") (terminal Full_stop) g refl rest
 
-full : (iri : Chars) {a : Chars} {f : List Token → List Token} → IsIri iri → Puts a f → Puts (iri_text iri ++ (codes " " ++ a)) (λ ts. iri_or_label (Named (Full iri)) ∷ f ts)
+full : (iri : Chars) {a : Chars} {f : List TurtleToken → List TurtleToken} → IsIri iri → Puts a f → Puts (iri_text iri ++ (codes " " ++ a)) (λ ts. iri_or_label (Named (Full iri)) ∷ f ts)
 full iri h rest = say (codes " ") (iri_text iri) (iri_or_label (Named (Full iri))) refl (record { is_iri = h; spelled = refl }) rest
 
-named : (name local : Chars) {a : Chars} {f : List Token → List Token} → is_prefix_name name ≡ true → is_local_name local ≡ true → Puts a f → Puts ((name ++ (codes ":" ++ local)) ++ (codes " " ++ a)) (λ ts. iri_or_label (short name local) ∷ f ts)
+named : (name local : Chars) {a : Chars} {f : List TurtleToken → List TurtleToken} → is_prefix_name name ≡ true → is_local_name local ≡ true → Puts a f → Puts ((name ++ (codes ":" ++ local)) ++ (codes " " ++ a)) (λ ts. iri_or_label (short name local) ∷ f ts)
 named name local h k rest = say (codes " ") (name ++ (codes ":" ++ local)) (iri_or_label (short name local)) refl (record { is_name = h; is_local = k; spelled = refl }) rest
 
-prefix_name : (gap name : Chars) {a : Chars} {f : List Token → List Token} → is_gap gap ≡ true → is_prefix_name name ≡ true → Puts a f → Puts ((name ++ codes ":") ++ (gap ++ a)) (λ ts. declared name ∷ f ts)
+prefix_name : (gap name : Chars) {a : Chars} {f : List TurtleToken → List TurtleToken} → is_spacing gap ≡ true → is_prefix_name name ≡ true → Puts a f → Puts ((name ++ codes ":") ++ (gap ++ a)) (λ ts. declared name ∷ f ts)
 prefix_name gap name g h rest = say gap (name ++ codes ":") (declared name) g (record { is_name = h; spelled = refl }) rest
 
 labels : (n : ℕ) → n < 10 → SpellsLabel (codes "_:b" ++ (48 + n) ∷ []) n
 labels n h = subst (λ z. SpellsLabel (codes "_:b" ++ z) n) (decimal_digit n h) (label_spelled n (omega (arith, h)))
 
-label : (n : ℕ) {a : Chars} {f : List Token → List Token} → n < 10 → Puts a f → Puts ((codes "_:b" ++ (48 + n) ∷ []) ++ (codes " " ++ a)) (λ ts. iri_or_label (Labelled n) ∷ f ts)
+label : (n : ℕ) {a : Chars} {f : List TurtleToken → List TurtleToken} → n < 10 → Puts a f → Puts ((codes "_:b" ++ (48 + n) ∷ []) ++ (codes " " ++ a)) (λ ts. iri_or_label (Labelled n) ∷ f ts)
 label n h rest = say (codes " ") (codes "_:b" ++ (48 + n) ∷ []) (iri_or_label (Labelled n)) refl (labels n h) rest
 
-literal : (gap inside text behind : Chars) (suffix : Suffix) {a : Chars} {f : List Token → List Token} → is_gap gap ≡ true → SpellsString inside text → SpellsSuffix behind suffix → Puts a f
+literal : (gap inside text behind : Chars) (suffix : Suffix) {a : Chars} {f : List TurtleToken → List TurtleToken} → is_spacing gap ≡ true → SpellsString inside text → SpellsSuffix behind suffix → Puts a f
     → Puts ((codes "\"" ++ (inside ++ (codes "\"" ++ behind))) ++ (gap ++ a)) (λ ts. quoted text suffix ∷ f ts)
 literal gap inside text behind suffix g s h rest =
     say gap (codes "\"" ++ (inside ++ (codes "\"" ++ behind))) (quoted text suffix) g (record { inside = inside; behind = behind; string = s; suffix_spelled = h; spelled = refl }) rest
 
 -- a literal with nothing behind its quotes
-plain : (inside text : Chars) {a : Chars} {f : List Token → List Token} → SpellsString inside text → Puts a f
+plain : (inside text : Chars) {a : Chars} {f : List TurtleToken → List TurtleToken} → SpellsString inside text → Puts a f
     → Puts ((codes "\"" ++ (inside ++ (codes "\"" ++ []))) ++ (codes " " ++ a)) (λ ts. quoted text Bare ∷ f ts)
 plain inside text s rest = literal (codes " ") inside text [] Bare refl s refl rest
 
@@ -87,13 +87,13 @@ nested_spelled = all_tokens nested.text (document_tokens nested.document) (
 
 -- ---- texts that denote nothing
 
-undeclared_document : Document
+undeclared_document : TurtleDocument
 undeclared_document = record {
   prefixes = (codes "p", v []) ∷ [];
   statements = record { subject = short (codes "q") (codes "s"); predicates = Predicate Type_of (Single (IriOrLabel (short (codes "p") (codes "T")))) Done } ∷ [];
 }
 
-undeclared_spelled : Spells undeclared undeclared_document
+undeclared_spelled : SpellsTurtle undeclared undeclared_document
 unfolding undeclared_document
 undeclared_spelled = record {
   spelled = all_tokens undeclared (document_tokens undeclared_document) (
@@ -106,9 +106,9 @@ undeclared_none : DenotesNone undeclared
 unfolding undeclared_document
 undeclared_none graph h =
     let same = spells_one undeclared h.document undeclared_document h.spells undeclared_spelled in
-    true≢false (sym (subst (λ (d : Document). are_known d.prefixes d.statements ≡ true) same h.known))
+    true≢false (sym (subst (λ (d : TurtleDocument). are_known d.prefixes d.statements ≡ true) same h.known))
 
-twice_document : Document
+twice_document : TurtleDocument
 twice_document = record {
   prefixes = (codes "p", v []) ∷ (codes "p", v []) ∷ [];
   statements = record { subject = short (codes "p") (codes "s"); predicates = Predicate Type_of (Single (IriOrLabel (short (codes "p") (codes "T")))) Done } ∷ [];
@@ -125,12 +125,12 @@ twice_none : DenotesNone declared_twice
 unfolding twice_document
 twice_none graph h =
     let same = one_document h.document twice_document (one_tokens declared_twice (document_tokens h.document) (document_tokens twice_document) h.spells.spelled twice_spelled) in
-    true≢false (sym (subst (λ (d : Document). names_differ (map (λ (prefix : Prefix). prefix.0) d.prefixes) ≡ true) same h.spells.once))
+    true≢false (sym (subst (λ (d : TurtleDocument). names_differ (map (λ (prefix : Prefix). prefix.0) d.prefixes) ≡ true) same h.spells.once))
 
 nested_only : (graph : List (Triple ℕ)) → Turtle collection.text graph → ⊥
 nested_only graph h =
     let same = spells_one collection.text h.document collection.document h.spells (record { spelled = collection_spelled; once = refl }) in
-    true≢false (sym (subst (λ (d : Document). are_flat d.statements ≡ true) same h.flat))
+    true≢false (sym (subst (λ (d : TurtleDocument). are_flat d.statements ≡ true) same h.flat))
 
 pub returns : goal.returns
 returns c = record {

@@ -1,4 +1,4 @@
-use Rattle.rx_command.proofs.Common.{arith, ap, subst, inl, ◌≡◌, ◌≤◌, ◌+◌, [], length, refl, Err, ◌∙◌, moves_weaker, moves_then, Limits, HasRead, TakesOf, largest_piece, page_limit, ReadsClean, TakesToFirst, standard, not_longer}
+use Rattle.rx_command.proofs.Common.{arith, ap, subst, inl, ◌≡◌, ◌≤◌, ◌+◌, [], length, refl, Err, ◌∙◌, moves_weaker, moves_then, Limits, HasRead, TakesOf, largest_piece, page_limit, ReadsClean, TakesToFirst, standard_limits, not_longer}
 use Rattle.rx_command.specs.declared.errors.InputError.TheVariants.{Failed}
 use Rattle.rx_command.proofs.FileLemmas.{read_start, takes_none, takes_more}
 use Rattle.rx_command.proofs.InputLemmas.{rose_before}
@@ -71,7 +71,7 @@ pub unreachable-requires : goal.unreachable-requires
 unreachable-requires g c =
     let start = c.requires.starts in
     let s = c.loop-taken.invariant.so_far start.setting start.at in
-    let most : length s.bytes ≤ standard.page =
+    let most : length s.bytes ≤ standard_limits.page =
     subst (λ (l : Limits). length s.bytes ≤ l.page) start.limits
     (not_longer (g.R.PageReader.way start.setting) s.bytes (g.met.R.PageReader.shows start.setting c.loop-taken.reader s.bytes s.at)) in
     omega (arith, most, s.size, c.loop-taken-test.false)

@@ -1,4 +1,4 @@
-use Rattle.rx_command.proofs.Common.{◌≤◌, ◌≡◌, ◌+◌, ◌-◌, [], vec_len, standard, IsPiece, page_limit}
+use Rattle.rx_command.proofs.Common.{◌≤◌, ◌≡◌, ◌+◌, ◌-◌, [], vec_len, standard_limits, IsPiece, page_limit}
 use Rattle.rx_command.proofs.ReadLemmas.{SoFar}
 use Rattle.rx_command.proofs.pages.feed_file.Given as goal
 
@@ -13,4 +13,4 @@ invariant-loop-taken g l = record {
 }
 
 abbrev pub decreases-loop-taken : goal.decreases-loop-taken
-decreases-loop-taken g l = standard.page + 1 - l.taken
+decreases-loop-taken g l = standard_limits.page + 1 - l.taken

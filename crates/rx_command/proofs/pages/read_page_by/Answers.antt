@@ -1,4 +1,4 @@
-use Rattle.rx_command.proofs.Common.{arith, refl, moves_same, setting_for, limits_are, TakesToFirst, way_of}
+use Rattle.rx_command.proofs.Common.{arith, refl, moves_same, setting_for, limits_are, TakesToFirst, approach_way}
 use Rattle.rx_command.proofs.ReadLemmas.{start_walk, unread_first}
 use Rattle.rx_command.proofs.pages.read_page_by.Goals as goal
 
@@ -20,7 +20,7 @@ returns-clause-gives g c =
 
 pub returns-in_err-walk-clause-to_first : goal.returns-in_err-walk-clause-to_first
 returns-in_err-walk-clause-to_first g c =
-    moves_same (TakesToFirst (way_of c.args.approach) c.args.name.now) (λ x. unread_first (way_of c.args.approach) c.args.name.now x x (omega arith)) (g.F.Shelf.told c.args.shelf.now)
+    moves_same (TakesToFirst (approach_way c.args.approach) c.args.name.now) (λ x. unread_first (approach_way c.args.approach) c.args.name.now x x (omega arith)) (g.F.Shelf.told c.args.shelf.now)
 
 pub returns-clause-to_first : goal.returns-clause-to_first
 returns-clause-to_first g c =

@@ -1,11 +1,11 @@
-use Rattle.rx_eval.proofs.Common.{◌∙◌, ap, refl, sym, length, option_map, is_some, length-map, IfOk-weaker, on_ok_weaker, term_seen, facts_seen, context_seen, found_seen, naming, naming_by, standing, owning_seen, owners_seen, owner_seen, resources, rule, value_now, put_entries, owners_begun, Entries, ◌≡◌, Bool, true, false, Some, if◌then◌else◌, entries_by}
+use Rattle.rx_eval.proofs.Common.{◌∙◌, ap, refl, sym, length, option_map, is_some, length-map, IfOk-weaker, on_ok_weaker, term_seen, facts_seen, context_seen, found_seen, naming, naming_by, standing_at, owning_seen, owners_seen, owner_seen, resources, rule, value_now, put_entries, owners_begun, Entries, ◌≡◌, Bool, true, false, Some, if◌then◌else◌, entries_by}
 use Rattle.rx_eval.proofs.EnterLemmas.{below_as, entries_entered, gathers_entered, on_always}
 use Rattle.rx_eval.proofs.elements.enter.Goals as goal
 
 pub returns-then-started-clause-context : goal.returns-then-started-clause-context
 returns-then-started-clause-context c =
     let place = c.args.place.now in
-    let at = standing place (facts_seen c.args.facts.now) in
+    let at = standing_at place (facts_seen c.args.facts.now) in
     rw (below_as place.labels.now place.fresh place.base.now at (resources (naming place) place.base.now at) (length c.args.lists.now), sym c.in_ok-started.ensures.found, c.if-started.true)
     (IfOk-weaker c.skipped.result _ _ (λ frame e. ap context_seen e) c.skipped.ensures.context)
 
@@ -26,7 +26,7 @@ returns-then-started-clause-below c =
 pub returns-clause-context : goal.returns-clause-context
 returns-clause-context c =
     let place = c.args.place.now in
-    let at = standing place (facts_seen c.args.facts.now) in
+    let at = standing_at place (facts_seen c.args.facts.now) in
     rw (below_as place.labels.now place.fresh place.base.now at (resources (naming place) place.base.now at) (length c.args.lists.now), sym c.in_ok-started.ensures.found) c.enter_found.ensures.context
 
 unless : {A : Type 0} (b : Bool) (x y : A) → b ≡ false → y ≡ (if b then x else y)
@@ -36,7 +36,7 @@ unless true x y e = absurd (cc)
 pub returns-clause-lists : goal.returns-clause-lists
 returns-clause-lists c =
     let place = c.args.place.now in
-    let at = standing place (facts_seen c.args.facts.now) in
+    let at = standing_at place (facts_seen c.args.facts.now) in
     let here = found_seen c.in_ok-started.started.found in
     let value = value_now (rule (naming place) place.base.now at.facts here) at.facts in
     let names = naming_by place.labels.now place.fresh at here (length c.args.lists.now) in

@@ -1,4 +1,4 @@
-use Rattle.rx_eval.proofs.Common.{◌∙◌, ap, ap₂, length, map, option_map, is_some, is_none, node_seen, term_seen, facts_seen, waiting_seen, found_seen, standing, naming_by, owners_seen, put_entries, entries_in}
+use Rattle.rx_eval.proofs.Common.{◌∙◌, ap, ap₂, length, map, option_map, is_some, is_none, node_seen, term_seen, facts_seen, waiting_seen, found_seen, standing_at, naming_by, owners_seen, put_entries, entries_in}
 use Rattle.rx_lists.specs.declared.lists.Owner.{Owner}
 use Rattle.rx_eval.specs.Elements.{handed_by, owner_in}
 use Rattle.rx_eval.proofs.EnterLemmas.{Begins, handed_is, owners_are, own_is, own_seen, below_seen, gathers_places}
@@ -32,7 +32,7 @@ returns-clause-below c = below_seen _ _ _ _ _ _ _ _ (begins (goal.at.returns-cla
 pub returns-clause-text : goal.returns-clause-text
 returns-clause-text c =
     let b = begins (goal.at.returns-clause-text c).In_ok-below in
-    let at = standing c.args.place.now (facts_seen c.args.facts.now) in
+    let at = standing_at c.args.place.now (facts_seen c.args.facts.now) in
     let here = found_seen c.args.found.now in
     gathers_places (naming_by c.args.place.now.labels.now c.args.place.now.fresh at here (length c.args.lists.now)) at here c.owner_or-owner.result.0 c.args.mark (is_some c.args.facts.now.property)
     (is_none c.args.value.now) c.in_ok-slots.slots.items (owners_seen c.begin_below.new.lists) _ c.in_ok-gathered.gathered

@@ -1,8 +1,8 @@
 use Rattle.rx_items.proofs.Common.{rules, ◌∙◌, sym, ap, ◌∷◌, ◌++◌, List, chars, IsUtf8, Chars, tokens, distinct_tokens, without_repeats_of}
-use Rattle.rx_items.specs.Distinct.{has_text}
 use Rattle.rx_items.proofs.DistinctLemmas.{Sees, sees_new, new_turn}
 use Rattle.rx_terms.proofs.Bools.{untrue}
 use Rattle.rx_items.proofs.distinct.distinct.Goals as goal
+use Rattle.rx_tags.specs.Repeats.{has_text}
 
 pub loop-token-preserved : goal.loop-token-preserved
 loop-token-preserved c =

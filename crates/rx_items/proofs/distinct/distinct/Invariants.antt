@@ -1,7 +1,7 @@
 use Rattle.rx_grammar.proofs.Common.{◌≡◌, ℕ, List, ◌++◌, length, chars, IsUtf8, Chars, tokens, is_among, Utf8, shadow}
 use Rattle.rx_microdata.specs.Facts.{distinct_tokens, without_repeats_of}
-use Rattle.rx_items.specs.Distinct.{has_text}
 use Rattle.rx_items.proofs.distinct.distinct.Given as goal
+use Rattle.rx_tags.specs.Repeats.{has_text}
 
 abbrev pub invariant-loop-token : goal.invariant-loop-token
 invariant-loop-token l = record {

@@ -1,4 +1,4 @@
-use Rattle.rx_items.proofs.Common.{not_both_ways, ℕ, List, ◌∷◌, Contains, ◌↔◌, ◌∙◌, Option, get_or, sym, subst, slice_get-get_or, Chars, filter_map, rows_of, LooksWhere, look_in, nothing_kept, ShowsWord, in_runs, RunsReach, Reaches}
+use Rattle.rx_items.proofs.Common.{not_both_ways, ℕ, List, ◌∷◌, Contains, ◌↔◌, ◌∙◌, Option, get_or, sym, subst, slice_get-get_or, Chars, filter_map, rows_of, LooksWhere, look_in, nothing_kept, ShowsWord, in_runs, RunsReach, GivesProperties}
 use Rattle.rx_items.specs.declared.spans.Span.{Span}
 use Rattle.rx_items.specs.declared.kept.Run.{Run}
 use Rattle.rx_items.proofs.IdLemmas.{row_shown}
@@ -32,4 +32,4 @@ returns c text times tree sorted up looks =
     let reaches : (x : ℕ) → Contains (in_runs members runs) x ↔ RunsReach ps c.args.place c.in_ok-starts.starts.items x = rw c.as_slice.ensures.value at reach in
     let all = properties_are ps (numbered tree) r.0 c.args.place members runs c.in_ok-starts.starts.items r.1 begins reaches in
     fits_by c.args.words.now text times ps members rows c.args.place (get_or rows c.args.place nothing_kept) r.0 c.in_ok-extra.extra (slice_get-get_or rows c.args.place nothing_kept c.requires) r.1 r.2
-    (c.in_ok-extra.ensures.names r.2.itemprop r.2.has_names) (c.in_ok-extra.ensures.types r.2.itemtype r.2.has_types) (λ item. subst (λ (runs : List Run). Reaches ps members c.args.place runs r.0) (sym c.in_ok-extra.ensures.reach) all)
+    (c.in_ok-extra.ensures.names r.2.itemprop r.2.has_names) (c.in_ok-extra.ensures.types r.2.itemtype r.2.has_types) (λ item. subst (λ (runs : List Run). GivesProperties ps members c.args.place runs r.0) (sym c.in_ok-extra.ensures.reach) all)

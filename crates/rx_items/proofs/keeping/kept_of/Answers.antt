@@ -1,4 +1,4 @@
-use Rattle.rx_items.proofs.Common.{List, sym, subst, length, rows_of, ShowsRows, AllFit}
+use Rattle.rx_items.proofs.Common.{List, sym, subst, length, rows_of, ShowsRows, FirstRowsFit}
 use Rattle.rx_items.specs.declared.rows.Row.{Row}
 use Rattle.rx_items.proofs.NestLemmas.{numbered}
 use Rattle.rx_items.proofs.keeping.kept_of.Goals as goal
@@ -12,5 +12,5 @@ returns c tree shows =
       shown = shows;
       base_is = c.of.ensures;
       numbered = numbered tree;
-      extras = subst (λ (rows : List Row). AllFit page.words (rows_of tree) c.in_ok-parts.parts.members.items rows (length rows) c.in_ok-parts.parts.extras.items) c.as_slice.ensures.value fit;
+      extras = subst (λ (rows : List Row). FirstRowsFit page.words (rows_of tree) c.in_ok-parts.parts.members.items rows (length rows) c.in_ok-parts.parts.extras.items) c.as_slice.ensures.value fit;
     }

@@ -1,4 +1,4 @@
-use Rattle.rx_items.proofs.Common.{◌∙◌, [], ◌∷◌, ap, sym, None, on_ok_weaker, data_events, one, both, told_as, object_made, turn, is_item, json_of_item, properties_in, is_there, keys_in, keys_seen, name_seen, ending, events_behind, value_at, grouped_at}
+use Rattle.rx_items.proofs.Common.{◌∙◌, [], ◌∷◌, ap, sym, None, on_ok_weaker, data_events, one, both, told_as, object_made, turn, is_item, json_of_item, properties_in, is_there, name_keys, keys_seen, name_seen, ending_events, events_behind, value_at, grouped_at}
 use Rattle.serde.specs.Event as event
 use Rattle.rx_items.proofs.HoldLemmas.{all_stand}
 use Rattle.rx_items.proofs.NameLemmas.{by_name_told}
@@ -16,7 +16,7 @@ write_item-returns g t c rows base root holds row found item =
 
 pub write_properties-returns : goal.write_properties-returns
 write_properties-returns g t c rows base root holds row found item =
-    let keys = keys_in (properties_in rows root) in
+    let keys = name_keys (properties_in rows root) in
     let named = c.in-Ok.ensures rows base root holds row found item in
     on_ok_weaker c.end_map.result
     (λ ended. object_made (events_behind rows base c.args.left None (keys_seen c.in-Ok.list.items)) (grouped_at rows base c.args.left keys)
@@ -54,5 +54,5 @@ pub write_members-returns : goal.write_members-returns
 write_members-returns g t c rows base holds =
     let l = c.loop-named in
     on_ok_weaker c.end_values.result
-    (λ ended. l.invariant rows base holds _ (told_as (ending (name_seen l.before)) _ (member_end rows base c.args.left c.args.list.now l.named-index (name_seen l.before) c.loop-named-test.false) ended))
+    (λ ended. l.invariant rows base holds _ (told_as (ending_events (name_seen l.before)) _ (member_end rows base c.args.left c.args.list.now l.named-index (name_seen l.before) c.loop-named-test.false) ended))
     c.end_values.ensures

@@ -1,4 +1,4 @@
-use Rattle.rx_names.proofs.Common.{◌≡◌, ◌∙◌, true, refl, sym, ap, option_or, lowered, seen_slice, value_at, folded}
+use Rattle.rx_names.proofs.Common.{◌≡◌, ◌∙◌, true, refl, sym, ap, option_or, lowered, seen_slice, table_value, folded}
 use Rattle.std.specs.Str.{chars}
 use lib.Utf8.{encode}
 use Rattle.rx_names.specs.Contexts.{standard_tables}
@@ -20,7 +20,7 @@ unfolding standard_tables encode
 folded_already = refl
 
 -- the rows of the code are the definition's, by computation
-looked_up : (c : goal.After-find_lowered) → seen_slice c.find_lowered.result ≡ value_at (lowered (chars c.args.name.now)) standard_tables.terms
+looked_up : (c : goal.After-find_lowered) → seen_slice c.find_lowered.result ≡ table_value (lowered (chars c.args.name.now)) standard_tables.terms
 unfolding chars standard_tables
 looked_up c = c.find_lowered.ensures.value
 
@@ -28,5 +28,5 @@ pub returns-clause-value : goal.returns-clause-value
 returns-clause-value c =
     let name = chars c.args.name.now in
     let terms = standard_tables.terms in
-    let same = ap (value_at (lowered name)) (sym folded_already) ∙ folded-value terms (lowered name) in
-    looked_up c ∙ sym (lowered-tells name terms lowered_already) ∙ ap (option_or (value_at name terms)) same
+    let same = ap (table_value (lowered name)) (sym folded_already) ∙ folded-value terms (lowered name) in
+    looked_up c ∙ sym (lowered-tells name terms lowered_already) ∙ ap (option_or (table_value name terms)) same

@@ -1,14 +1,14 @@
 use Rattle.rx_nest.proofs.Common.{◌≡◌, true, sym, subst, take_rest, is_quiet}
 use Rattle.rx_nest.proofs.Turning.{Taken, taken_start, taken_more, taken_whole, taken_stop, somewhere_taken}
 use Rattle.rx_nest.specs.Quiets.{QuietAt}
-use Rattle.rx_nest.specs.Readings.{Goes}
+use Rattle.rx_nest.specs.Readings.{ListenerStands}
 use Rattle.rx_nest.proofs.QuietReading.{quiet_drop}
 use Rattle.rx_nest.proofs.readings.take_all.Goals as goal
 
 pub turns-init : goal.turns-init
 turns-init g c =
     record {
-      taken = λ setting bytes k. taken_start (Goes (g.L.Listener.way setting) (g.L.Listener.knows setting)) bytes c.args.piece.now c.args.nest.now c.args.listener.now k;
+      taken = λ setting bytes k. taken_start (ListenerStands (g.L.Listener.way setting) (g.L.Listener.knows setting)) bytes c.args.piece.now c.args.nest.now c.args.listener.now k;
       quiet = λ setting bytes k q. (taken_start (QuietAt (g.L.Listener.way setting) (g.L.Listener.knows setting) g.L.Listener.idle) bytes c.args.piece.now c.args.nest.now c.args.listener.now k, q);
     }
 
@@ -22,7 +22,7 @@ turns-preserved g c =
     let quiets = rw c.in-Ok-Took.field-0-is at c.in-Ok-Took.ensures.quiet in
     record {
       taken = λ setting bytes k.
-          let Is = Goes (g.L.Listener.way setting) (g.L.Listener.knows setting) in
+          let Is = ListenerStands (g.L.Listener.way setting) (g.L.Listener.knows setting) in
           let t = c.turns.invariant.taken setting bytes k in
           subst (λ x. Taken Is bytes c.args.piece.now x c.take_some.new.nest c.take_some.new.listener) (sym (take_rest c.turns.rest.now c.in-Ok-Took.taken))
           (taken_more Is bytes c.args.piece.now c.turns.rest.now c.in-Ok-Took.taken c.turns.nest c.take_some.new.nest c.turns.listener c.take_some.new.listener t (gives setting _ t.goes));

@@ -1,5 +1,5 @@
 use Rattle.rx_nest.specs.Quiets.{QuietAt}
-use Rattle.rx_nest.specs.Readings.{Goes}
+use Rattle.rx_nest.specs.Readings.{ListenerStands}
 use Rattle.rx_nest.proofs.Turning.{somewhere_on, none_took}
 use Rattle.rx_nest.proofs.readings.take_some.Goals as goal
 
@@ -15,7 +15,7 @@ turns-preserved g c =
     let quiets = rw c.in-Ok-Took-eq0.field-0-is at c.in-Ok-Took-eq0.ensures.quiet in
     record {
       on = λ setting bytes k.
-          none_took (Goes (g.L.Listener.way setting) (g.L.Listener.knows setting)) bytes c.args.piece.now c.in-Ok-Took-eq0.field-0-0 c.step.new.nest c.step.new.listener c.in-Ok-Took-eq0.field-0-0-test
+          none_took (ListenerStands (g.L.Listener.way setting) (g.L.Listener.knows setting)) bytes c.args.piece.now c.in-Ok-Took-eq0.field-0-0 c.step.new.nest c.step.new.listener c.in-Ok-Took-eq0.field-0-0-test
           (gives setting bytes (c.turns.invariant.on setting bytes k));
       quiet = λ setting bytes k q.
           none_took (QuietAt (g.L.Listener.way setting) (g.L.Listener.knows setting) g.L.Listener.idle) bytes c.args.piece.now c.in-Ok-Took-eq0.field-0-0 c.step.new.nest c.step.new.listener c.in-Ok-Took-eq0.field-0-0-test

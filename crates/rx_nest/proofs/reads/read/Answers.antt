@@ -37,7 +37,7 @@ returns-in-Tag-clause-reads c syntax limits bytes told at =
     let tagged = subst (λ x. hears.TakesToken c.args.line.now c.in-Ok.step.1 (Ok x) c.take_token.new.self) c.in-Tag.is c.in-Ok-take_token.ensures in
     let mid = c.step.follows.lender-at-none in
     let stepped = h.1 at.now.scan at.stands in
-    let entered = c.enter.ensures.new ∙ ap (λ x. scan.inside_of x c.in-Tag.told.drops mid) c.content.ensures in
+    let entered = c.enter.ensures.new ∙ ap (λ x. scan.moved_inside x c.in-Tag.told.drops mid) c.content.ensures in
     subst (λ x. nests.Heeds syntax limits bytes told c.args.piece.now c.in-Ok.step.0 (tree_token.Tag c.in-Tag.told) c.args.line.now x c.take_token.new.self) (sym entered)
     ((heard syntax limits bytes told c.args.scan.now c.args.line.now at c.args.piece.now c.in-Ok.step.0 c.in-Ok.step.1 mid stepped h.0.2.shows (Ok (tree_token.Tag c.in-Tag.told)) c.take_token.new.self tagged).1
     (subst (λ x. scan.ScanStands x stepped.scanned.next) entered (c.enter.ensures.stands stepped.scanned.next stepped.stands)))

@@ -1,4 +1,4 @@
-use Rattle.rx_scan.proofs.Common.{◌≡◌, ℕ, List, true, take, subst, list_all, IsUtf8, take_rest, is_plain}
+use Rattle.rx_scan.proofs.Common.{◌≡◌, ℕ, List, true, take, subst, list_all, IsUtf8, take_rest, is_plain_char}
 use Rattle.rx_scan.proofs.PlainLemmas.{ascii_plain, ascii_text, plain_more, text_more}
 use Rattle.rx_scan.proofs.FrontLemmas.{front_within}
 use Rattle.rx_scan.proofs.plain.text_length.Goals as goal
@@ -18,5 +18,5 @@ loop-count-preserved c =
     record {
       fits = front_within bytes i n c.loop-count.invariant.fits run.fits;
       text = text_more i n bytes c.loop-count.invariant.text (subst (λ (x : List ℕ). IsUtf8 (take n x)) rest run.text);
-      plain = plain_more i n bytes c.loop-count.invariant.plain (subst (λ (x : List ℕ). list_all is_plain (take n x) ≡ true) rest run.plain);
+      plain = plain_more i n bytes c.loop-count.invariant.plain (subst (λ (x : List ℕ). list_all is_plain_char (take n x) ≡ true) rest run.plain);
     }

@@ -1,4 +1,4 @@
-use Rattle.rx_turtle.proofs.Common.{◌≡◌, ◌∙◌, nat_eq, Blank, rdf_first, rdf_rest, list_of}
+use Rattle.rx_turtle.proofs.Common.{◌≡◌, ◌∙◌, nat_eq, Blank, rdf_first, rdf_rest, source_triples}
 use Rattle.rx_shapes.specs.Places.{places_of}
 use Rattle.rx_shapes.proofs.PlaceLemmas.{object_found}
 use Rattle.rx_turtle.proofs.DueLemmas.{cell_pushed}
@@ -6,7 +6,7 @@ use Rattle.rx_turtle.proofs.cells.push_cell.Goals as goal
 
 pub returns : goal.returns
 returns c =
-    let list = list_of c.args.source.now in
+    let list = source_triples c.args.source.now in
     let node = Blank c.args.cell.0 in
     let places = c.places-places.result.now in
     let are : places ≡ places_of nat_eq list node = c.places-places.ensures ∙ c.requires.places node in

@@ -1,9 +1,9 @@
-use Rattle.rx_turtle.proofs.Common.{arith, list_of}
+use Rattle.rx_turtle.proofs.Common.{arith, source_triples}
 use Rattle.rx_turtle.proofs.RunLemmas.{is_subject, stated_turn, stated_end}
 use Rattle.rx_turtle.proofs.nesting.tokens_about.Goals as goal
 
 pub state-requires-clause-subject : goal.state-requires-clause-subject
-state-requires-clause-subject c = is_subject (list_of c.args.source.now) c.args.subjects.now c.loop-i.i _ _ c.requires.subjects c.at.ensures
+state-requires-clause-subject c = is_subject (source_triples c.args.source.now) c.args.subjects.now c.loop-i.i _ _ c.requires.subjects c.at.ensures
 
 pub loop-i-preserved : goal.loop-i-preserved
 loop-i-preserved c = (

@@ -1,4 +1,4 @@
-use Rattle.rx_eval.proofs.Common.{◌≡◌, ◌∙◌, ◌<◌, arith, List, length, ◌++◌, refl, sym, ap, Bool, length-map, triples_seen, facts_seen, owners_seen, level_at, start_at, below_at, lists_at, gathers_at, own_at, below_own_at, context_seen, frame_seen, all_frames, first_of}
+use Rattle.rx_eval.proofs.Common.{◌≡◌, ◌∙◌, ◌<◌, arith, List, length, ◌++◌, refl, sym, ap, Bool, length-map, triples_seen, facts_seen, owners_seen, level_at, start_at, below_at, lists_at, gathers_at, own_at, below_own_at, context_seen, frame_seen, all_frames, outermost_place}
 use Rattle.rx_eval.specs.declared.frames.Frame.{Frame as CodeFrame}
 use Rattle.rx_eval.proofs.SkippedLemmas.{counted_all}
 use Rattle.rx_eval.proofs.KeepLemmas.{sound_more}
@@ -13,7 +13,7 @@ pub invariant_of-self-2 : goal.invariant_of-self-2
 invariant_of-self-2 c =
     let room : c.self.inside.depth < c.self.inside.levels = omega (arith, (rw (← c.self.view_is) at c.requires.level), c.self.invariant.deep) in
     sound_more c.self.invariant _ room refl c.in_ok-push.ensures.items (ap length c.as_slice-frames.ensures.value)
-    (c.first_of-self-inside.ensures ∙ ap (λ (b : Bool). first_of c.self.inside.outermost b (length c.as_slice-frames.result.now)) c.is_some-gathers.ensures)
+    (c.first_of-self-inside.ensures ∙ ap (λ (b : Bool). outermost_place c.self.inside.outermost b (length c.as_slice-frames.result.now)) c.is_some-gathers.ensures)
 
 pub returns : goal.returns
 returns c =

@@ -1,4 +1,4 @@
-use Rattle.rx_eval.proofs.Common.{◌≡◌, ◌∙◌, ◌++◌, ◌∷◌, ℕ, List, length, Option, sym, ap, ap₂, arith, is_some, length-map, node_seen, Node, Inherited, context_seen, begun_seen, first_of, handed_on, Owning, owners_seen, referring_frame, all_frames, skipped_frames, Frame, frame_seen}
+use Rattle.rx_eval.proofs.Common.{◌≡◌, ◌∙◌, ◌++◌, ◌∷◌, ℕ, List, length, Option, sym, ap, ap₂, arith, is_some, length-map, node_seen, Node, Inherited, context_seen, begun_seen, outermost_place, handed_on, Owning, owners_seen, referring_frame, all_frames, skipped_frames, Frame, frame_seen}
 use Rattle.rx_eval.specs.contracts.stack.Stack.{the_view}
 use Rattle.rx_eval.specs.declared.frames.Frame.{Frame as CodeFrame}
 use Rattle.rx_eval.specs.declared.frames.Gathered.{Gathered}
@@ -12,7 +12,7 @@ invariant_of-self-2 c =
     sound_framed c.self.invariant c.args.inside c.in_ok-frame.frame
     (omega (arith, (rw (← c.self.view_is) at c.requires.level), c.self.invariant.deep)) (omega (arith, (rw (← c.self.view_is) at c.requires.rooted), c.self.invariant.deep))
     c.in_ok-frame.ensures.skipped.0 c.in_ok-push.ensures.items (ap length c.as_slice-frames.ensures.value)
-    (c.first_of-self-inside.ensures ∙ ap (λ (g : Option Gathered). first_of c.self.inside.outermost (is_some g) (length c.as_slice-frames.result.now)) (sym c.in_ok-frame.ensures.skipped.1))
+    (c.first_of-self-inside.ensures ∙ ap (λ (g : Option Gathered). outermost_place c.self.inside.outermost (is_some g) (length c.as_slice-frames.result.now)) (sym c.in_ok-frame.ensures.skipped.1))
 
 pub returns : goal.returns
 returns c =

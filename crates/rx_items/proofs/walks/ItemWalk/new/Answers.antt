@@ -1,4 +1,4 @@
-use Rattle.rx_items.proofs.Common.{refl, Setting}
+use Rattle.rx_items.proofs.Common.{MicrodataSetting, refl}
 use Rattle.rx_items.proofs.walks.ItemWalk.new.Goals as goal
 
 pub new-requires : goal.new-requires
@@ -11,5 +11,5 @@ new-requires c = record {
 
 pub returns : goal.returns
 returns c =
-    let setting : Setting = record { syntax = c.args.syntax; limits = c.args.limits; address = c.args.address } in
+    let setting : MicrodataSetting = record { syntax = c.args.syntax; limits = c.args.limits; address = c.args.address } in
     c.in_ok-reading.ensures setting refl refl (c.new-collector.ensures setting refl)

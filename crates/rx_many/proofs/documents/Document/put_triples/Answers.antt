@@ -1,4 +1,4 @@
-use Rattle.rx_many.proofs.Common.{List, ◌++◌, map, take, subst, arith, take_all, triples_seen, Line, PageBlank, statement_at, PageStands}
+use Rattle.rx_many.proofs.Common.{List, ◌++◌, map, take, subst, arith, take_all, triples_seen, QuadLine, PageBlank, statement_at, PageStands}
 use Rattle.rx_terms.specs.declared.triples.Triple.{Triple as CodeTriple}
 use Rattle.rx_many.proofs.FreshLemmas.{next_new}
 use Rattle.rx_many.proofs.LineLemmas.{page_begins, triples_more}
@@ -9,7 +9,7 @@ loop-i-init c shared place lines s tells new = page_begins s
 
 pub loop-i-preserved : goal.loop-i-preserved
 loop-i-preserved c shared place lines s tells new =
-    subst (λ (z : List (Line PageBlank)). PageStands shared place c.put_triple.new.self z) (triples_more lines place c.args.name.now c.args.graph.now c.loop-i.i _ c.at.ensures)
+    subst (λ (z : List (QuadLine PageBlank)). PageStands shared place c.put_triple.new.self z) (triples_more lines place c.args.name.now c.args.graph.now c.loop-i.i _ c.at.ensures)
     (c.in_ok-put_triple.ensures shared place (lines ++ map (statement_at place c.args.name.now) (triples_seen (take c.loop-i.i c.args.graph.now))) (c.loop-i.invariant shared place lines s tells new) tells
     (next_new place c.args.name.now shared lines c.args.graph.now c.loop-i.i _ c.at.ensures c.len-i-end.ensures.each_once new))
 

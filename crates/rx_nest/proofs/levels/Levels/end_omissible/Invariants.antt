@@ -5,8 +5,8 @@ use Rattle.rx_nest.proofs.levels.Levels.end_omissible.Given as goal
 abbrev pub invariant-loop : goal.invariant-loop
 invariant-loop l =
     record {
-      kept : levels.kept (levels.ends_by l.closing (chars l.name)) l.fn.self.levels ≡ levels.kept (levels.ends_by l.closing (chars l.name)) l.self.levels;
-      ended : levels.ended (levels.ends_by l.closing (chars l.name)) l.fn.self.levels ≡ l.ended + levels.ended (levels.ends_by l.closing (chars l.name)) l.self.levels;
+      kept : levels.kept_levels (levels.ends_by l.closing (chars l.name)) l.fn.self.levels ≡ levels.kept_levels (levels.ends_by l.closing (chars l.name)) l.self.levels;
+      ended : levels.ended_count (levels.ends_by l.closing (chars l.name)) l.fn.self.levels ≡ l.ended + levels.ended_count (levels.ends_by l.closing (chars l.name)) l.self.levels;
       room : l.self.room ≡ l.fn.self.room;
       memory : l.self.memory ≡ l.fn.self.memory;
       count : l.ended ≤ l.counter;

@@ -1,4 +1,4 @@
-use Rattle.rx_nest.proofs.Common.{refl, sym, subst, Takes}
+use Rattle.rx_nest.proofs.Common.{refl, sym, subst, TakesBytes}
 use Rattle.rx_nest.proofs.Endings.{stepped, shown_more}
 use Rattle.rx_nest.proofs.nests.Nest.step.Goals as goal
 
@@ -10,7 +10,7 @@ returns c =
         refl,
         (λ n. tt),
         (
-          (k.0, k.1, k.2, k.3, subst (λ b. Takes c.args.piece.now c.in-Ok.done.0 b c.args.self.now.owed c.advance.new.self.owed) (sym more) k.4),
+          (k.0, k.1, k.2, k.3, subst (λ b. TakesBytes c.args.piece.now c.in-Ok.done.0 b c.args.self.now.owed c.advance.new.self.owed) (sym more) k.4),
           (λ syntax limits bytes signs st. stepped syntax limits bytes signs c.args.piece.now c.in-Ok.done.0 c.in-Ok.done.1 c.shown.result c.advance.new.self (c.in-Ok.ensures.steps syntax limits bytes signs st) c.shown.ensures),
         ),
       ),

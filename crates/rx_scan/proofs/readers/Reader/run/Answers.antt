@@ -1,4 +1,4 @@
-use Rattle.rx_scan.proofs.Common.{◌≡◌, length, take, drop, ◌-◌, ◌<◌, ◌∙◌, ℕ, ◌+◌, sym, subst, inl, arith, refl, Result, get_or, false, IfOk, MatchBool, ◌==◌, ◌≤◌, Stop, Buffered, TakesFront, Reading, Runs, is_tag}
+use Rattle.rx_scan.proofs.Common.{◌≡◌, length, take, drop, ◌-◌, ◌<◌, ◌∙◌, ℕ, ◌+◌, sym, subst, inl, arith, refl, Result, get_or, false, IfOk, MatchBool, ◌==◌, ◌≤◌, Stop, Buffered, ReadsFront, Reading, Runs, is_tag}
 use Rattle.rx_scan.specs.declared.answers.TokenKind.{TokenKind}
 use Rattle.rx_scan.proofs.RunLemmas.{took_text}
 use Rattle.rx_scan.proofs.QuietLemmas.{quiet_tells, quiet_at, between_tells, stopped_tells, other_tells, next_read, token_read, stopped, rest_took, lends, may_step}
@@ -26,7 +26,7 @@ loop-taken-init c =
     let n = c.take_front-taken.result in
     let new = c.take_front-taken.new.self in
     let same : c.take_tag-whole.new.self ≡ c.args.self.now = c.take_tag-whole.ensures.none (omega (arith, c.if-whole-gt0.false)) in
-    let takes = subst (λ (x : Reading). MatchBool (n == 0) (new ≡ x) (TakesFront x (take n c.args.piece.now) new)) same c.take_front-taken.ensures.takes in
+    let takes = subst (λ (x : Reading). MatchBool (n == 0) (new ≡ x) (ReadsFront x (take n c.args.piece.now) new)) same c.take_front-taken.ensures.takes in
     let k : IsKept c.args.self.now n new = kept c.args.self.now new (take n c.args.piece.now) n takes in
     record {
       within = c.take_front-taken.ensures.fits;

@@ -1,5 +1,5 @@
 use Rattle.rx_grammar.proofs.Common.{◌∙◌, sym, ap, arith, has_repeat}
-use Rattle.rx_tags.specs.Reading.{Reading}
+use Rattle.rx_tags.specs.Reading.{AttributeReading}
 use Rattle.rx_tags.proofs.Pieces.{added, rows_fit_past}
 use Rattle.rx_tags.proofs.RepeatLemmas.{nothing_left, first_of, keeps_fit}
 use Rattle.rx_tags.proofs.attributes.Attributes.add_last.Goals as goal
@@ -17,13 +17,13 @@ pub returns-in_default-clause-kept : goal.returns-in_default-clause-kept
 returns-in_default-clause-kept c =
     let a = added _ _ _ _ _ _ _ c.self.invariant (rw c.if-is_err.ensures.negation at c.push.ensures.items) (omega (arith, c.len-end.ensures, c.self.inside.text.ok.0)) in
     let none = rw (c.in_default.is, c.deref.ensures.value, c.deref-2.ensures.value) at c.in-Ok.ensures in
-    rw (← c.self.view_is) (a.1 ∙ nothing_left _ (ap (λ (r : Reading). has_repeat r.whole) (sym a.1) ∙ none))
+    rw (← c.self.view_is) (a.1 ∙ nothing_left _ (ap (λ (r : AttributeReading). has_repeat r.whole) (sym a.1) ∙ none))
 
 pub returns-in_default-clause-repeated : goal.returns-in_default-clause-repeated
 returns-in_default-clause-repeated c =
     let a = added _ _ _ _ _ _ _ c.self.invariant (rw c.if-is_err.ensures.negation at c.push.ensures.items) (omega (arith, c.len-end.ensures, c.self.inside.text.ok.0)) in
     let none = rw (c.in_default.is, c.deref.ensures.value, c.deref-2.ensures.value) at c.in-Ok.ensures in
-    rw (← c.self.view_is) (sym (ap (λ (r : Reading). has_repeat r.whole) (sym a.1) ∙ none))
+    rw (← c.self.view_is) (sym (ap (λ (r : AttributeReading). has_repeat r.whole) (sym a.1) ∙ none))
 
 pub invariant_of-self-2 : goal.invariant_of-self-2
 invariant_of-self-2 c =
@@ -41,4 +41,4 @@ pub returns-clause-repeated : goal.returns-clause-repeated
 returns-clause-repeated c =
     let a = added _ _ _ _ _ _ _ c.self.invariant (rw c.if-is_err.ensures.negation at c.push.ensures.items) (omega (arith, c.len-end.ensures, c.self.inside.text.ok.0)) in
     let keeps = rw (c.in-Some.is, c.deref.ensures.value, c.deref-2.ensures.value) at c.in-Ok.ensures in
-    rw (← c.self.view_is) (sym (ap (λ (r : Reading). has_repeat r.whole) (sym a.1) ∙ keeps.repeated))
+    rw (← c.self.view_is) (sym (ap (λ (r : AttributeReading). has_repeat r.whole) (sym a.1) ∙ keeps.repeated))

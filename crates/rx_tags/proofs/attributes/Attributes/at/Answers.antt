@@ -1,5 +1,5 @@
 use Rattle.std.proofs.Common.{◌≡◌, ◌<◌, arith, ap, length, Some, slice_get}
-use Rattle.rx_tags.specs.Reading.{Reading, rows_read, RowFits, row_read}
+use Rattle.rx_tags.specs.Reading.{AttributeReading, rows_read, RowFits, row_read}
 use Rattle.rx_tags.proofs.Pieces.{row_at}
 use Rattle.rx_tags.proofs.attributes.Attributes.at.Goals as goal
 use Rattle.rx_tags.proofs.attributes.Attributes.at.Goals.{After-deref}
@@ -8,7 +8,7 @@ row_is : (c : After-deref)
     → RowFits c.self.inside.text.items c.self.inside.start c.index-row.result.now
     × (slice_get (rows_read c.self.inside.text.items c.self.inside.rows.items) c.args.i ≡ Some (row_read c.self.inside.text.items c.index-row.result.now))
 row_is c =
-    let asked : c.args.i < length (rows_read c.self.inside.text.items c.self.inside.rows.items) = omega (arith, c.requires, ap (λ (r : Reading). length r.whole) c.self.view_is) in
+    let asked : c.args.i < length (rows_read c.self.inside.text.items c.self.inside.rows.items) = omega (arith, c.requires, ap (λ (r : AttributeReading). length r.whole) c.self.view_is) in
     row_at c.self.inside.text.items _ c.self.inside.rows.items c.args.i c.index-row.result.now c.index-row.result.now c.self.invariant.rows_fit asked c.index-row.ensures
 
 pub text_between-requires-clause-rises : goal.text_between-requires-clause-rises

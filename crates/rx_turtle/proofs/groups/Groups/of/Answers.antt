@@ -1,10 +1,10 @@
-use Rattle.rx_turtle.proofs.Common.{◌∙◌, take, map, ap, sym, arith, refl, slice_get_read, keys_in}
+use Rattle.rx_turtle.proofs.Common.{◌∙◌, take, map, ap, sym, arith, refl, slice_get_read, group_keys}
 use Rattle.rx_turtle.proofs.GroupLemmas.{lent_seen}
 use Rattle.rx_turtle.proofs.TakenLemmas.{taken_turn, taken_end, taken_once}
 use Rattle.rx_turtle.proofs.groups.Groups.of.Goals as goal
 
 pub loop-i-init : goal.loop-i-init
-loop-i-init c = (c.none-groups.ensures, c.new-keys.ensures ∙ sym (ap keys_in c.none-groups.ensures))
+loop-i-init c = (c.none-groups.ensures, c.new-keys.ensures ∙ sym (ap group_keys c.none-groups.ensures))
 
 pub take-requires-clause-keys : goal.take-requires-clause-keys
 take-requires-clause-keys c = c.loop-i.invariant.1

@@ -1,4 +1,4 @@
-use Rattle.rx_walk.proofs.Common.{◌-◌, [], refl, ap, arith, Kept, finished, line_of}
+use Rattle.rx_walk.proofs.Common.{◌-◌, [], refl, ap, arith, KeptNames, finished, line_of}
 use Rattle.rx_walk.proofs.Fronting.{front_left}
 use Rattle.rx_walk.proofs.Coursing.{accepts_of, absolute_around, takes_one, runs_more, popped_around, around_length, marks_of}
 use Rattle.rx_walk.proofs.Accepted.{accepts_more}
@@ -24,5 +24,5 @@ returns c context address levels signs r f =
     let size = around_length (line_of [] signs) some in
     runs_more context address levels c.args.self.now (record { origin = c.args.self.now.origin; names = c.pop.new.self; maker = c.args.self.now.maker; facts = c.args.self.now.facts; count = c.args.self.now.count - 1; stage = c.finish.new.self }) signs r finished f
     (accepts_more context c.args.self.now.names signs (accepts_of r) c.pop.new.self finished (popped_around c.args.self.now.names c.pop.new.self c.pop.ensures.line (line_of [] signs) some r.names_are)
-    (ap (λ (k : Kept). k.context) c.pop.ensures.popped) (absolute_around (line_of [] signs) r.absolute) refl)
+    (ap (λ (k : KeptNames). k.context) c.pop.ensures.popped) (absolute_around (line_of [] signs) r.absolute) refl)
     refl (omega (arith, size, r.count_is)) c.in_ok-finish.ensures

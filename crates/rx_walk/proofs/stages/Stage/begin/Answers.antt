@@ -1,4 +1,4 @@
-use Rattle.rx_walk.proofs.Common.{refl, on_ok_weaker, Enter, facts_seen, tag_of, seek_begun}
+use Rattle.rx_walk.proofs.Common.{refl, on_ok_weaker, Enter, facts_seen, tag_seen, token_tag, seek_begun}
 use Rattle.rx_walk.proofs.Staging.{found_enters, found_one}
 use Rattle.rx_walk.proofs.stages.Stage.begin.Goals as goal
 
@@ -11,4 +11,4 @@ enter-requires-clause-root c = (found_enters c.args.origin.now.levels (facts_see
 pub returns-in-Found : goal.returns-in-Found
 returns-in-Found c =
     rw c.in-Found.is
-    (on_ok_weaker c.enter.result (found_one c.args.origin.now (λ s. seek_begun c.args.count s (tag_of c.args.tag.now)) (Enter (facts_seen c.args.facts.now)) c.in-Found.eval c.enter.new.eval (λ href. refl)) c.enter.ensures)
+    (on_ok_weaker c.enter.result (found_one c.args.origin.now (λ s. seek_begun c.args.count s (token_tag (tag_seen c.args.tag.now))) (Enter (facts_seen c.args.facts.now)) c.in-Found.eval c.enter.new.eval (λ href. refl)) c.enter.ensures)

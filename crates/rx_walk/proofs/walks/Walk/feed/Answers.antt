@@ -1,4 +1,4 @@
-use Rattle.rx_walk.proofs.Common.{◌∙◌, [], sym, ap, subst, calls_of, sought, Walked, WalkStands, state_of}
+use Rattle.rx_walk.proofs.Common.{◌∙◌, [], sym, ap, subst, calls_of, sought, Walked, WalkStands, found_state}
 use Rattle.rx_walk.proofs.TextKeeping.{idle_at}
 use Rattle.rx_walk.proofs.walks.Walk.feed.Goals as goal
 
@@ -11,6 +11,6 @@ returns-clause-place c setting address bytes s = c.feed.ensures.place (setting, 
 pub returns-clause-quiet : goal.returns-clause-quiet
 returns-clause-quiet c setting address bytes s between q state is none =
     let was = subst (λ v. WalkStands setting address v bytes) (sym c.self.view_is) s in
-    let here = ap (λ (w : Walked). state_of w.listener.stage) c.self.view_is ∙ is in
+    let here = ap (λ (w : Walked). found_state w.listener.stage) c.self.view_is ∙ is in
     let idle = idle_at address setting.limits.depth (sought was.goes.signs) (calls_of setting.context [] was.goes.signs) c.self.inside.reading.listener.stage state was.goes.known.staged here none in
     c.feed.ensures.quiet (setting, address) bytes was between q idle
